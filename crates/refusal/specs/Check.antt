@@ -1,0 +1,14 @@
+-- The checks that calls on one block make: 2, 10 and 12 of document 01. Assumes nothing.
+use Prim.Native.Nat.{ℕ, _*_}
+use mathlib.Core.Bool.{Bool, false, true, not, cond, _&&_}
+use lib.Dec.{leb, eqb}
+use lib.Ieee.{Float}
+use Rattle.refusal.specs.Refusal.{Told, done, badDimension, shapesDisagree}
+
+-- 2: a size from `least` to 16 passes
+abbrev pub sizeCheck : (least place size : ℕ) → Told
+sizeCheck least place size = cond (leb least size && leb size 16) done (badDimension place)
+
+-- 12: a slice passes that has exactly the numbers of a block of that height and width
+abbrev pub areaCheck : (place height width count : ℕ) → Told
+areaCheck place height width count = cond (eqb count (height * width)) done (shapesDisagree place)
