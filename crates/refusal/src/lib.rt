@@ -37,3 +37,51 @@ pub fn refused(s: Shaped) -> bool
         Shaped::Mismatch { place: _ } => true,
     }
 }
+
+// `before`, or where it passes what the size `n` says: it passes from `least` to 16.
+pub fn size(before: Shaped, least: usize, place: usize, n: usize) -> Shaped
+    ensures { λ r. ⌜ told r ≡ firstOf (told before) (sizeCheck least place n) ⌝ }
+{
+    if refused(before) {
+        return before;
+    }
+    if n < least {
+        return Shaped::Dimension { place };
+    }
+    if n > 16 {
+        return Shaped::Dimension { place };
+    }
+    before
+}
+
+// Whether a slice of `count` numbers holds a block of that height and width exactly. The product is formed only where it
+// fits; a quotient serves elsewhere.
+pub fn is_area(count: usize, height: usize, width: usize) -> bool
+    ensures { λ r. ⌜ r ≡ eqb count (height * width) ⌝ }
+{
+    if height <= 65536 {
+        if width <= 65536 {
+            return count == height * width;
+        }
+    }
+    if height == 0 {
+        return count == 0;
+    }
+    if count % height != 0 {
+        return false;
+    }
+    count / height == width
+}
+
+// `before`, or where it passes what the slice of `count` numbers says: it passes where it holds the block exactly.
+pub fn area(before: Shaped, place: usize, height: usize, width: usize, count: usize) -> Shaped
+    ensures { λ r. ⌜ told r ≡ firstOf (told before) (areaCheck place height width count) ⌝ }
+{
+    if refused(before) {
+        return before;
+    }
+    if is_area(count, height, width) {
+        return before;
+    }
+    Shaped::Mismatch { place }
+}

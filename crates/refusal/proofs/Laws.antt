@@ -1,0 +1,85 @@
+-- The laws of verdicts and of checks. Assumes nothing.
+use mathlib.Core.Path.{_≡_, refl, sym, _∙_, ap}
+use mathlib.Core.Bool.{Bool, true, false, cond, _&&_}
+use Prim.Native.Nat.{ℕ, zero, suc, _*_, _/_, _%_, _≤_, _<_}
+use native.Mathlib.Nat.{mul-mod-right, mul-comm, div-add-mod', div-eq-of-eq-mul-right}
+use native.Mathlib.Omega.{arith}
+use lib.Dec.{leb, eqb}
+use lib.Ieee.{Float}
+use borrow.Author.Tests.{leb-true, eqb-true, eqb-false, eq-eqb, ne-eqb, le-leb, lt-leb}
+use Rattle.refusal.specs.Refusal.{Told, tells, done, refuses, firstOf, after}
+use Rattle.refusal.specs.Check.{sizeCheck, areaCheck}
+use Rattle.refusal.specs.Shaped.{told, Answers}
+use Rattle.refusal.specs.declared.Shaped.{Shaped}
+use Rattle.refusal.specs.declared.Shaped.the-variants.{Accepted, Dimension, Mismatch}
+use mathlib.Core.List.{List}
+
+-- ---- verdicts
+
+-- a verdict that refuses is the first of two
+pub first-refuses : (v next : Told) → refuses v ≡ true → v ≡ firstOf v next
+first-refuses (tells zero is xs) next e = cc
+first-refuses (tells (suc n) is xs) next e = refl
+
+-- after one that passes, the next decides
+pub first-passes : (v next : Told) → refuses v ≡ false → next ≡ firstOf v next
+first-passes (tells zero is xs) next e = refl
+first-passes (tells (suc n) is xs) next e = cc
+
+-- where the first of two passes, both pass
+pub both-pass : (v next : Told) → refuses (firstOf v next) ≡ false → (refuses v ≡ false) × (refuses next ≡ false)
+both-pass (tells zero is xs) next e = (refl, e)
+both-pass (tells (suc n) is xs) next e = (e, cc)
+
+-- an outcome of shapes that passes says no more
+pub passed : (s : Shaped) → refuses (told s) ≡ false → told s ≡ done
+passed (Accepted w) e = refl
+passed (Dimension place) e = cc
+passed (Mismatch place) e = cc
+
+-- ---- what a check that passes says
+
+of-test : (b : Bool) (v : Told) → refuses v ≡ true → refuses (cond b done v) ≡ false → b ≡ true
+of-test true v r e = refl
+of-test false v r e = cc
+
+both-true : (a b : Bool) → (a && b) ≡ true → (a ≡ true) × (b ≡ true)
+both-true true b e = (refl, e)
+both-true false b e = (e, cc)
+
+pub size-passes : (least place n : ℕ) → refuses (sizeCheck least place n) ≡ false → (least ≤ n) × (n ≤ 16)
+size-passes least place n e =
+    let tests = both-true (leb least n) (leb n 16) (of-test _ _ refl e) in
+    (leb-true least n (tests .0), leb-true n 16 (tests .1))
+
+pub area-passes : (place h w count : ℕ) → refuses (areaCheck place h w count) ≡ false → count ≡ h * w
+area-passes place h w count e = eqb-true _ _ (of-test _ _ refl e)
+
+-- ---- the promise of a call on shapes
+
+module _ (v : Told) (old new : List Float) (r : Shaped) (says : told r ≡ v) where
+  pub answer-refused : refuses (told r) ≡ true → Answers v old new r old
+  answer-refused e = record { outcome = says; buffer = rw (rw says at e) }
+
+  pub answer-done : (now : List Float) → refuses (told r) ≡ false → now ≡ new → Answers v old new r now
+  answer-done now e n = record { outcome = says; buffer = rw (rw says at e) n }
+
+-- ---- quotients
+
+module _ (h : ℕ) (positive : h ≡ 0 → ⊥) where
+  -- a remainder shows that a number is no multiple
+  pub not-multiple : (count w : ℕ) → (count % h ≡ 0 → ⊥) → eqb count (h * w) ≡ false
+  not-multiple count w r = ne-eqb _ _ (λ e. r (ap (λ (k : ℕ). k % h) e ∙ mul-mod-right h w))
+
+  -- with none, the quotient decides
+  pub quotient-decides : (count w : ℕ) → count % h ≡ 0 → eqb (count / h) w ≡ eqb count (h * w)
+  quotient-decides count w r = by-test (eqb (count / h) w) refl
+    where
+      above : 0 < h
+      above = omega (arith, positive)
+
+      by-test : (b : Bool) → eqb (count / h) w ≡ b → eqb (count / h) w ≡ eqb count (h * w)
+      by-test true e =
+          let whole : h * (count / h) ≡ h * w = ap (λ (k : ℕ). h * k) (eqb-true (count / h) w e) in
+          e ∙ sym (eq-eqb count (h * w) (omega (arith, div-add-mod' count h, mul-comm h (count / h))))
+      by-test false e = e ∙ sym (ne-eqb count (h * w) (λ m. eqb-false _ _ e (div-eq-of-eq-mul-right above m)))

@@ -1,0 +1,96 @@
+-- The laws of single floats: |x| by its sign, the greater and the lesser of two, and zero over zero. Assumes nothing.
+use mathlib.Core.Path.{_≡_, refl, sym, _∙_, ap}
+use mathlib.Core.Bool.{Bool, true, false, not, cond, _&&_, _||_, Bool·beq}
+use Prim.Native.Nat.{ℕ, zero, suc, _+_, _*_, _/_, _%_, _^_, _≤_, _<_, compare}
+use native.Mathlib.Nat.{zero-div, zero-mod, zero-mul, mul-zero, suc-mul, pow-suc}
+use native.Mathlib.Omega.{arith}
+use lib.Dec.{T, ltb, leb, eqb, lit<}
+use lib.IntN.{ℤ, pos, negsuc}
+use lib.Ieee as Ieee
+use lib.Ieee.{Float, nan, inf, fin, binary64, Format, up, down, fits, isNan, lt, eq, ne, neg, mul, div, round, unlike, ofBits}
+use lib.Ieee.Fits.{up-pos, down-pos}
+use lib.Ieee.Exact.{HasValue, round-exact}
+use borrow.Author.Tests.{ltb-true, ltb-false, eqb-true, eq-eqb}
+use Rattle.scalar.specs.Scalar.{nought, magnitude, max, min}
+
+-- ---- numbers
+
+-- a product that is 0 with a positive factor has the other factor 0
+zero-factor : (m u : ℕ) → 0 < u → m * u ≡ 0 → m ≡ 0
+zero-factor zero u p e = refl
+zero-factor (suc m) u p e = absurd (omega (arith, suc-mul m u))
+
+both-true : (a b : Bool) → (a && b) ≡ true → a ≡ true
+both-true true b h = refl
+both-true false b h = h
+
+-- the exponent of a zero that is written in the one way
+unit-exponent : (e : ℤ) → up e * down e ≡ 1 → e ≡ pos 0
+unit-exponent (pos zero) h = refl
+unit-exponent (pos (suc k)) h = absurd (omega (arith, pow-suc 2 k))
+unit-exponent (negsuc k) h = absurd (omega (arith, pow-suc 2 k))
+
+-- ---- |x|
+
+pub magnitude-negative : (x : Float) → lt x nought ≡ true → neg x ≡ magnitude x
+unfolding lt neg magnitude ofBits
+magnitude-negative nan h = refl
+magnitude-negative (inf true) h = refl
+magnitude-negative (inf false) h = cc
+magnitude-negative (fin true m e) h = refl
+magnitude-negative (fin false m e) h = absurd (omega (arith, ltb-true (m * up e * down (pos 0)) (0 * up (pos 0) * down e) h))
+
+of-zero : (s : Bool) (m : ℕ) (e : ℤ) → m ≡ 0 → fits binary64 (fin s m e) ≡ true → fin false 0 (pos 0) ≡ fin false m e
+unfolding fits
+of-zero s zero e z f = ap (fin false 0) (sym (unit-exponent e (eqb-true _ _ f)))
+of-zero s (suc m) e z f = absurd (omega arith)
+
+pub magnitude-zero : (x : Float) → fits binary64 x ≡ true → eq x nought ≡ true → nought ≡ magnitude x
+unfolding eq magnitude ofBits
+magnitude-zero nan f h = cc
+magnitude-zero (inf s) f h = cc
+magnitude-zero (fin s m e) f h = of-zero s m e (zero-factor m (up e) (up-pos e) (omega (arith, eqb-true (m * up e * down (pos 0)) _ (both-true _ _ h)))) f
+
+pub magnitude-positive : (x : Float) → lt x nought ≡ false → eq x nought ≡ false → x ≡ magnitude x
+unfolding lt eq magnitude ofBits
+magnitude-positive nan h k = refl
+magnitude-positive (inf true) h k = cc
+magnitude-positive (inf false) h k = refl
+magnitude-positive (fin true m e) h k =
+    let none : m * up e * down (pos 0) ≡ 0 * up (pos 0) * down e = omega (arith, ltb-false 0 (m * up e * down (pos 0) + 0 * up (pos 0) * down e) h) in
+    let same : eqb (m * up e * down (pos 0)) (0 * up (pos 0) * down e) ≡ true = eq-eqb _ _ none in
+    let zero : eqb (m * up e * down (pos 0)) 0 ≡ true = eq-eqb (m * up e * down (pos 0)) 0 (omega arith) in
+    let clash : true ≡ false = rw (same, zero) at k in
+    cc
+magnitude-positive (fin false m e) h k = refl
+
+-- ---- a NaN differs from itself, and nothing else does
+
+same-sign : (s : Bool) → Bool·beq s s ≡ true
+same-sign true = refl
+same-sign false = refl
+
+pub nan-test : (x : Float) → isNan x ≡ ne x x
+unfolding isNan ne eq
+nan-test nan = refl
+nan-test (inf s) = rw (same-sign s)
+nan-test (fin s m e) = rw (eq-eqb (m * up e * down e) _ refl, same-sign s)
+
+-- ---- zero over zero
+
+-- a number of value 0 over itself is a NaN
+of-value-zero : (z : Float) (s : Bool) (a c : ℕ) → 0 < c → a ≡ 0 → HasValue z s a c → div binary64 z z ≡ nan
+unfolding div
+of-value-zero nan s a c p q v = absurd v
+of-value-zero (inf t) s a c p q v = absurd v
+of-value-zero (fin t m e) s a c p q v =
+    rw (zero-factor m (up e) (up-pos e) (zero-factor (m * up e) c p (v .1 ∙ rw q (zero-mul (down e)))))
+
+pub zero-over-zero : (x : Float) → div binary64 (mul binary64 x nought) (mul binary64 x nought) ≡ nan
+unfolding mul div ofBits
+zero-over-zero nan = refl
+zero-over-zero (inf s) = refl
+zero-over-zero (fin s m e) =
+    let none : m * up e * (0 * up (pos 0)) ≡ 0 = mul-zero (m * up e) in
+    of-value-zero (round binary64 (unlike s false) (m * up e * (0 * up (pos 0))) (down e * down (pos 0))) (unlike s false) (m * up e * (0 * up (pos 0))) (down e * down (pos 0)) (omega (arith, down-pos e)) none
+    (round-exact binary64 (unlike s false) (m * up e * (0 * up (pos 0))) (down e * down (pos 0)) 0 0 (omega (arith, down-pos e)) (lit< tt) (lit< tt) (rw none (sym (zero-mul (down e * down (pos 0))))))

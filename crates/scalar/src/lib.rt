@@ -1,0 +1,79 @@
+// Single floats and the entries of a block: what every kernel stands on.
+pub mod core;
+ghost use mathlib.Core.Path.{_≡_};
+ghost use lib.Ieee.{nan};
+ghost use Rattle.scalar.specs.Block.{blanked};
+ghost use Rattle.scalar.specs.Scalar.{magnitude, isFinite, max, min, isTolerance};
+
+// |x|: the sign goes, also that of -0.0.
+pub fn abs(x: f64) -> f64
+    ensures { λ r. ⌜ r ≡ magnitude x ⌝ }
+{
+    if x < 0.0 {
+        -x
+    } else if x == 0.0 {
+        0.0
+    } else {
+        x
+    }
+}
+
+// Whether x is no NaN and no infinity.
+pub fn is_finite(x: f64) -> bool
+    ensures { λ r. ⌜ r ≡ isFinite x ⌝ }
+{
+    if x < f64::from_bits(0x7ff0_0000_0000_0000) {
+        f64::from_bits(0xfff0_0000_0000_0000) < x
+    } else {
+        false
+    }
+}
+
+// The greater of two numbers: of a NaN and a number, the number.
+pub fn max(a: f64, b: f64) -> f64
+    ensures { λ r. ⌜ r ≡ max a b ⌝ }
+{
+    if a != a {
+        return b;
+    }
+    if a < b { b } else { a }
+}
+
+// The lesser of two numbers: of a NaN and a number, the number.
+pub fn min(a: f64, b: f64) -> f64
+    ensures { λ r. ⌜ r ≡ min a b ⌝ }
+{
+    if a != a {
+        return b;
+    }
+    if b < a { b } else { a }
+}
+
+// Whether x can be a relative tolerance: finite and not below zero.
+pub fn is_tolerance(x: f64) -> bool
+    ensures { λ r. ⌜ r ≡ isTolerance x ⌝ }
+{
+    if is_finite(x) {
+        return !(x < 0.0);
+    }
+    false
+}
+
+// A NaN. Where `seed` is finite its bits are 0x7FF8000000000000 on x86-64: 0.0 / 0.0 gives the other sign there, and the
+// compiler, which would fold a quotient of constants to this one, does not know the seed.
+pub fn not_a_number(seed: f64) -> f64
+    ensures { λ r. ⌜ r ≡ nan ⌝ }
+{
+    let zero = seed * 0.0;
+    -(zero / zero)
+}
+
+// Every number becomes the NaN of that seed.
+pub fn blank(x: &mut [f64], seed: f64)
+    ensures { λ _. ⌜ now (x .exit) ≡ blanked (now (x .entry)) ⌝ }
+{
+    let blank = not_a_number(seed);
+    for i in 0..x.len() {
+        x[i] = blank;
+    }
+}
