@@ -7,12 +7,12 @@ use native.Mathlib.Omega.{arith}
 use lib.Dec.{leb, eqb}
 use lib.Ieee.{Float}
 use borrow.Author.Tests.{leb-true, eqb-true, eqb-false, eq-eqb, ne-eqb, le-leb, lt-leb}
-use Rattle.refusal.specs.Refusal.{Told, tells, done, refuses, firstOf, after}
+use Rattle.refusal.specs.Refusal.{Told, tells, done, refuses, firstOf, verdictAfter, verdict, after}
 use Rattle.refusal.specs.Check.{sizeCheck, areaCheck}
 use Rattle.refusal.specs.Shaped.{told, Answers}
 use Rattle.refusal.specs.declared.Shaped.{Shaped}
 use Rattle.refusal.specs.declared.Shaped.the-variants.{Accepted, Dimension, Mismatch}
-use mathlib.Core.List.{List}
+use mathlib.Core.List.{List, [], _∷_}
 
 -- ---- verdicts
 
@@ -55,14 +55,42 @@ size-passes least place n e =
 pub area-passes : (place h w count : ℕ) → refuses (areaCheck place h w count) ≡ false → count ≡ h * w
 area-passes place h w count e = eqb-true _ _ (of-test _ _ refl e)
 
--- ---- the promise of a call on shapes
+-- a slice as long as one column
+pub column-passes : (place n count : ℕ) → refuses (areaCheck place n 1 count) ≡ false → count ≡ n
+column-passes place n count e = omega (arith, area-passes place n 1 count e)
 
-module _ (v : Told) (old new : List Float) (r : Shaped) (says : told r ≡ v) where
-  pub answer-refused : refuses (told r) ≡ true → Answers v old new r old
-  answer-refused e = record { outcome = says; buffer = rw (rw says at e) }
+-- ---- what a list of checks that passes says
 
-  pub answer-done : (now : List Float) → refuses (told r) ≡ false → now ≡ new → Answers v old new r now
-  answer-done now e n = record { outcome = says; buffer = rw (rw says at e) n }
+abbrev pub AllPass : List Told → Type 0
+AllPass [] = Unit
+AllPass (check ∷ checks) = (refuses check ≡ false) × AllPass checks
+
+all-pass-after : (v : Told) (checks : List Told) → refuses (verdictAfter v checks) ≡ false → (refuses v ≡ false) × AllPass checks
+all-pass-after v [] e = (e, tt)
+all-pass-after v (check ∷ checks) e =
+    let rest = all-pass-after (firstOf v check) checks e in
+    let both = both-pass v check (rest .0) in
+    (both .0, (both .1, rest .1))
+
+pub all-pass : (checks : List Told) → refuses (verdict checks) ≡ false → AllPass checks
+all-pass checks e = all-pass-after done checks e .1
+
+-- ---- a call whose checks say v, and whose test of that was `b`
+
+module _ (v t : Told) (b : Bool) (says : t ≡ v) (tests : b ≡ refuses t) where
+  pub goes-on : b ≡ false → refuses v ≡ false
+  goes-on e = rw says at (sym tests ∙ e)
+
+  pub stops : b ≡ true → refuses v ≡ true
+  stops e = rw says at (sym tests ∙ e)
+
+-- the promise of a call on shapes
+module _ (v : Told) (s : Shaped) (b : Bool) (says : told s ≡ v) (tests : b ≡ refuses (told s)) (old new : List Float) where
+  pub answer-refused : b ≡ true → Answers v old new s old
+  answer-refused e = record { outcome = says; buffer = rw (stops v (told s) b says tests e) }
+
+  pub answer-done : (now : List Float) → b ≡ false → now ≡ new → Answers v old new s now
+  answer-done now e n = record { outcome = says; buffer = rw (goes-on v (told s) b says tests e) n }
 
 -- ---- quotients
 

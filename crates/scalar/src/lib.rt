@@ -1,5 +1,6 @@
 // Single floats and the entries of a block: what every kernel stands on.
 pub mod core;
+
 ghost use mathlib.Core.Path.{_≡_};
 ghost use lib.Ieee.{nan};
 ghost use Rattle.scalar.specs.Block.{blanked};
