@@ -3,6 +3,7 @@ use Prim.Native.Nat.{ℕ, _+_, _*_}
 use mathlib.Core.List.{List, _++_}
 use lib.ListN.{length, getD, set, take, drop, replicate}
 use lib.Ieee.{Float, nan, binary64, add, sub, mul}
+use Rattle.scalar.specs.Scalar.{nought}
 
 -- the entry (r, c) of m
 abbrev pub at : List Float → ℕ → ℕ → ℕ → Float
@@ -22,6 +23,10 @@ gain s x y = add binary64 s (mul binary64 x y)
 -- x with its n numbers from `off` on changed by f
 abbrev pub within : ℕ → ℕ → (List Float → List Float) → List Float → List Float
 within off n f x = take off x ++ (f (take n (drop off x)) ++ drop n (drop off x))
+
+-- zeros, n of them
+abbrev pub zeros : ℕ → List Float
+zeros n = replicate n nought
 
 -- as many NaNs as x has numbers
 unfoldable pub blanked : List Float → List Float

@@ -3,7 +3,8 @@ pub mod core;
 
 ghost use mathlib.Core.Path.{_≡_};
 ghost use lib.Ieee.{nan};
-ghost use Rattle.scalar.specs.Block.{blanked};
+ghost use lib.ListN.{length};
+ghost use Rattle.scalar.specs.Block.{blanked, zeros};
 ghost use Rattle.scalar.specs.Scalar.{magnitude, isFinite, max, min, isTolerance};
 
 // |x|: the sign goes, also that of -0.0.
@@ -76,5 +77,14 @@ pub fn blank(x: &mut [f64], seed: f64)
     let blank = not_a_number(seed);
     for i in 0..x.len() {
         x[i] = blank;
+    }
+}
+
+// Every number becomes 0.0.
+pub fn clear(x: &mut [f64])
+    ensures { λ _. ⌜ now (x .exit) ≡ zeros (length (now (x .entry))) ⌝ }
+{
+    for i in 0..x.len() {
+        x[i] = 0.0;
     }
 }

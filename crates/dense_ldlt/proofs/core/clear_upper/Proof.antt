@@ -1,0 +1,46 @@
+-- `dense_ldlt::core::clear_upper` meets its contract: the invariants say how far the two loops of the definition are; `search` finds the rest. Assumes nothing.
+use Prim.Native.Nat.{_-_, _*_, _≤_}
+use mathlib.Core.Path.{_≡_}
+use lib.ListN.{length}
+use Rattle.scalar.specs.Loop.{steps}
+use Rattle.scalar.specs.Block.{put}
+use Rattle.dense_ldlt.specs.Ldlt.{nought, clearColumn, clearUpper}
+use Rattle.scalar.proofs.Laws.{kernels}
+use Rattle.dense_ldlt.proofs.core.clear_upper.Statement.{statement}
+use Rattle.dense_ldlt.proofs.core.clear_upper.Tie as tie
+
+abbrev Inv-loop2 : tie.InvT-loop2
+Inv-loop2 n a₀ c r₀ a r = (r ≤ c) × (length a ≡ n * n) × (a ≡ steps (λ r a. put a n r c nought) r a₀)
+
+abbrev μ-loop2 : tie.MeasureT-loop2
+μ-loop2 n a₀ c r₀ a r = c - r
+
+abbrev Inv-loop : tie.InvT-loop
+Inv-loop n a₀ c₀ a c = (c ≤ n) × (length a ≡ n * n) × (a ≡ steps (clearColumn n) c a₀)
+
+abbrev μ-loop : tie.MeasureT-loop
+μ-loop n a₀ c₀ a c = n - c
+
+returns : tie.Need-returns Inv-loop2 μ-loop2 Inv-loop μ-loop
+unfolding clearUpper
+returns c = search kernels
+
+pub clear-upper-spec : {M : Type 1} → statement M
+clear-upper-spec =
+    tie.close
+    (tie.spec
+    Inv-loop2
+    μ-loop2
+    Inv-loop
+    μ-loop
+    (λ c. search kernels)
+    (λ c. search kernels)
+    (λ c κs. search kernels)
+    (λ c. search kernels)
+    (λ c. search kernels)
+    (λ c. search kernels)
+    (λ c. search kernels)
+    (λ c. search kernels)
+    (λ c. search kernels)
+    (λ c. search kernels)
+    returns)

@@ -1,0 +1,36 @@
+-- `dense_ldlt::core::reduced` meets its contract: a turn's result is the definition's by what `entry` ensures, which `cc` finds. Assumes nothing.
+use Prim.Native.Nat.{_-_, _≤_}
+use mathlib.Core.Path.{_≡_}
+use borrow.Author.Needs.{needs}
+use Rattle.scalar.specs.Loop.{steps}
+use Rattle.scalar.specs.Block.{at}
+use Rattle.dense_ldlt.specs.Ldlt.{loseScaled}
+use Rattle.scalar.proofs.Laws.{steps-next, kernels}
+use Rattle.dense_ldlt.proofs.core.reduced.Statement.{statement}
+use Rattle.dense_ldlt.proofs.core.reduced.Tie as tie
+
+abbrev Inv-loop : tie.InvT-loop
+Inv-loop n j k a d s₀ p₀ s p = (p ≤ k) × (s ≡ steps (loseScaled n j k a d) p (at a n j k))
+
+abbrev μ-loop : tie.MeasureT-loop
+μ-loop n j k a d s₀ p₀ s p = k - p
+
+loop-again : tie.Need-loop-again Inv-loop μ-loop
+loop-again c = (search needs, steps-next _ _ _ _ _ (c .before .before .before .before .loop .inv .1) (cc))
+
+pub reduced-spec : {M : Type 1} → statement M
+reduced-spec =
+    tie.close
+    (tie.spec
+    Inv-loop
+    μ-loop
+    (λ c κs. search kernels)
+    (λ c. search kernels)
+    (λ c κs. search kernels)
+    (λ c. search kernels)
+    (λ c. search kernels)
+    (λ c κs. search kernels)
+    (λ c. search kernels)
+    (λ c. search kernels)
+    loop-again
+    (λ c. search kernels))
