@@ -7,7 +7,7 @@ use native.Mathlib.Omega.{arith}
 use lib.Dec.{leb, eqb}
 use lib.Ieee.{Float}
 use borrow.Author.Tests.{leb-true, eqb-true, eqb-false, eq-eqb, ne-eqb, le-leb, lt-leb}
-use Rattle.refusal.specs.Refusal.{Told, tells, done, refuses, firstOf, verdictAfter, verdict, after}
+use Rattle.refusal.specs.Refusal.{Told, tells, done, badDimension, shapesDisagree, refuses, firstOf, verdictAfter, verdict, after}
 use Rattle.refusal.specs.Check.{sizeCheck, areaCheck}
 use Rattle.refusal.specs.Shaped.{told, Answers}
 use Rattle.refusal.specs.declared.Shaped.{Shaped}
@@ -36,6 +36,37 @@ pub passed : (s : Shaped) → refuses (told s) ≡ false → told s ≡ done
 passed (Accepted w) e = refl
 passed (Dimension place) e = cc
 passed (Mismatch place) e = cc
+
+-- ---- a list of checks, from its front
+
+stays-refused : (v : Told) (checks : List Told) → refuses v ≡ true → verdictAfter v checks ≡ v
+stays-refused v [] e = refl
+stays-refused v (check ∷ checks) e = ap (λ (t : Told). verdictAfter t checks) (sym (first-refuses v check e)) ∙ stays-refused v checks e
+
+-- the first check refuses
+pub verdict-stops : (check : Told) (checks : List Told) → refuses check ≡ true → verdict (check ∷ checks) ≡ check
+verdict-stops check checks e = stays-refused check checks e
+
+-- the first check passes
+pub verdict-goes : (check : Told) (checks : List Told) → check ≡ done → verdict (check ∷ checks) ≡ verdict checks
+verdict-goes check checks e = ap (λ (t : Told). verdictAfter t checks) e
+
+-- ---- what a check says
+
+pub size-small : (least place n : ℕ) → n < least → sizeCheck least place n ≡ badDimension place
+size-small least place n h = rw (lt-leb least n h)
+
+pub size-large : (least place n : ℕ) → least ≤ n → 16 < n → sizeCheck least place n ≡ badDimension place
+size-large least place n l h = rw (le-leb least n l, lt-leb n 16 h)
+
+pub size-fits : (least place n : ℕ) → least ≤ n → n ≤ 16 → sizeCheck least place n ≡ done
+size-fits least place n l h = rw (le-leb least n l, le-leb n 16 h)
+
+pub area-differs : (place h w count : ℕ) → (count ≡ h * w → ⊥) → areaCheck place h w count ≡ shapesDisagree place
+area-differs place h w count e = rw (ne-eqb count (h * w) e)
+
+pub area-fits : (place h w count : ℕ) → count ≡ h * w → areaCheck place h w count ≡ done
+area-fits place h w count e = rw (eq-eqb count (h * w) e)
 
 -- ---- what a check that passes says
 

@@ -4,7 +4,8 @@ use mathlib.Core.Path.{_≡_}
 use lib.ListN.{length}
 use Rattle.scalar.specs.Loop.{steps}
 use Rattle.scalar.specs.Block.{put}
-use Rattle.dense_ldlt.specs.Ldlt.{nought, clearColumn, clearUpper}
+use Rattle.scalar.specs.Scalar.{nought}
+use Rattle.dense_ldlt.specs.Ldlt.{clearColumn, clearUpper}
 use Rattle.scalar.proofs.Laws.{kernels}
 use Rattle.dense_ldlt.proofs.core.clear_upper.Statement.{statement}
 use Rattle.dense_ldlt.proofs.core.clear_upper.Tie as tie

@@ -1,15 +1,15 @@
 -- `dense_ldlt::core::divided` meets its contract: each arm returns what `cond` picks. Assumes nothing.
 use borrow.Author.Needs.{needs}
-use Rattle.dense_ldlt.specs.Ldlt.{quotient}
+use Rattle.dense_ldlt.specs.Ldlt.{dividedBy}
 use Rattle.dense_ldlt.proofs.core.divided.Statement.{statement}
 use Rattle.dense_ldlt.proofs.core.divided.Tie as tie
 
 returns : tie.Need-returns
-unfolding quotient
+unfolding dividedBy
 returns c = rw (← c .before .abs .ensures, c .if1 .taken)
 
 returns-2 : tie.Need-returns-2
-unfolding quotient
+unfolding dividedBy
 returns-2 c = rw (← c .before .abs .ensures, c .if1 .left)
 
 pub divided-spec : {M : Type 1} → statement M

@@ -1,8 +1,8 @@
--- `dense_ldlt::core::kept` meets its contract: each arm returns what `cond` picks. Assumes nothing.
+-- `dense_ldlt::core::kept_of` meets its contract: each arm returns what `cond` picks. Assumes nothing.
 use borrow.Author.Needs.{needs}
 use Rattle.dense_ldlt.specs.Ldlt.{stored}
-use Rattle.dense_ldlt.proofs.core.kept.Statement.{statement}
-use Rattle.dense_ldlt.proofs.core.kept.Tie as tie
+use Rattle.dense_ldlt.proofs.core.kept_of.Statement.{statement}
+use Rattle.dense_ldlt.proofs.core.kept_of.Tie as tie
 
 returns : tie.Need-returns
 unfolding stored
@@ -12,5 +12,5 @@ returns-2 : tie.Need-returns-2
 unfolding stored
 returns-2 c = rw (← c .before .abs .ensures, c .if1 .left)
 
-pub kept-spec : {M : Type 1} → statement M
-kept-spec = tie.close (tie.spec (λ c κs. search needs) returns returns-2)
+pub kept-of-spec : {M : Type 1} → statement M
+kept-of-spec = tie.close (tie.spec (λ c κs. search needs) returns returns-2)

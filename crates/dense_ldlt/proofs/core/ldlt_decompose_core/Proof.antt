@@ -1,61 +1,60 @@
 -- `dense_ldlt::core::ldlt_decompose_core` meets its contract: the state of the definition is `going` with the locals. Where the loop is left early it is `stopped`, which no later row changes. Assumes nothing.
-use Prim.Native.Nat.{ℕ, _+_, _-_, _*_, _≤_}
+use Prim.Native.Nat.{_-_, _*_, _≤_}
 use mathlib.Core.Path.{_≡_, refl, _∙_, ap, sym}
-use mathlib.Core.Bool.{Bool, true, false, cond}
-use mathlib.Core.List.{List}
 use native.Mathlib.Nat.{le-trans}
 use native.Mathlib.Omega.{arith}
-use lib.ListN.{length, set}
-use lib.Ieee.{Float, binary64, mul, le}
+use lib.ListN.{length, length-replicate}
+use lib.Ieee.{binary64, mul}
 use borrow.Author.Needs.{needs}
 use borrow.Author.Tests.{not-true, not-false}
 use Rattle.scalar.specs.Loop.{steps}
-use Rattle.scalar.specs.Block.{at, put}
-use Rattle.dense_ldlt.specs.Ldlt.{magnitude, isFinite, one, losePivot, divideEntry, stored, counted, ldlt, ldltRow, going, stopped, pivotOf, start, finish}
-use Rattle.scalar.specs.declared.ldlt.Pivots.{Pivots}
+use Rattle.scalar.specs.Block.{zeros}
 use Rattle.scalar.proofs.Laws.{steps-next, steps-all, steps-stuck, kernels}
+use Rattle.dense_ldlt.specs.Pivots.{noPivots, pivotsOf}
+use Rattle.dense_ldlt.specs.Ldlt.{ldlt, ldltRow, going, finish}
+use Rattle.dense_ldlt.proofs.PivotLaws.{rank-grows, account-more, account-all}
+use Rattle.dense_ldlt.proofs.RowLaws.{goes-on, stops}
 use Rattle.dense_ldlt.proofs.core.ldlt_decompose_core.Statement.{statement}
 use Rattle.dense_ldlt.proofs.core.ldlt_decompose_core.Tie as tie
 
 abbrev Inv-loop : tie.InvT-loop
-Inv-loop n tol a₀ d₀ p₀ j₀ a d p j =
-    (j ≤ n) × (length a ≡ n * n) × (length d ≡ n) × (p .rank ≤ j)
-    × (going a d p ≡ steps (ldltRow n tol) j (going a₀ d₀ start))
+Inv-loop n a₀ d₀ tol p₀ j₀ a d p j =
+    (j ≤ n) × (length a ≡ n * n) × (length d ≡ n) × (p .rank ≤ j) × (p ≡ pivotsOf d j)
+    × (going a d ≡ steps (ldltRow n tol) j (going a₀ (zeros n)))
 
 abbrev μ-loop : tie.MeasureT-loop
-μ-loop n tol a₀ d₀ p₀ j₀ a d p j = n - j
+μ-loop n a₀ d₀ tol p₀ j₀ a d p j = n - j
 
--- one more pivot raises the rank by one at most
-of-either : (b : Bool) (p q : Pivots) (m : ℕ) → p .rank ≤ m → q .rank ≤ m → cond b p q .rank ≤ m
-of-either true p q m h k = h
-of-either false p q m h k = k
+loop-holds : tie.Need-loop-holds Inv-loop μ-loop
+unfolding pivotsOf steps
+loop-holds c =
+    let x = c .before .before .before .before .before .before in
+    let cleared = c .before .before .clear .ensures in (
+      search needs,
+      search needs,
+      rw (cleared) (length-replicate _ _ ∙ x .pre .1),
+      search needs,
+      refl,
+      rw (cleared, x .pre .1),
+    )
 
-rank-grows : (tol x : Float) (p : Pivots) → counted tol x p .rank ≤ p .rank + 1
-unfolding counted
-rank-grows tol x p = of-either (le (magnitude x) tol) _ _ _ (omega arith) (omega arith)
-
--- row j of the definition, where a′ is the block after its divisions and x its pivot
-module _ (n j : ℕ) (tol : Float) (a d : List Float) (p : Pivots) (a′ : List Float) (x : Float)
-    (divides : a′ ≡ steps (divideEntry n j (mul binary64 (p .greatest) tol) d) j a)
-    (pivots : x ≡ steps (losePivot n j a′ d) j (at a′ n j j)) where
-  goes-on : isFinite x ≡ true → going (put a′ n j j one) (set d j (stored (mul binary64 (p .greatest) tol) x)) (counted (mul binary64 (p .greatest) tol) x p) ≡ ldltRow n tol j (going a d p)
-  unfolding ldltRow pivotOf
-  goes-on f = rw (← divides, ← pivots, f)
-
-  stops : isFinite x ≡ false → stopped a′ d j x ≡ ldltRow n tol j (going a d p)
-  unfolding ldltRow pivotOf
-  stops f = rw (← divides, ← pivots, f)
-
-returns : tie.Need-returns Inv-loop μ-loop
+stops-early : tie.Need-returns Inv-loop μ-loop
 unfolding ldlt ldltRow
-returns c = let divides = c .before .before .before .before .before .before .before in
+stops-early c =
+    let divides = c .before .before .before .before .before .before .before in
     let rows = divides .before .before .before .before .before in
-    let n = rows .before .before .before .args .n in
+    let n = rows .before .before .before .before .before .before .before .args .n in
     let infinite = sym (c .before .is-finite .ensures) ∙ not-true _ (c .if1 .taken) in
     ap (finish n)
     (steps-stuck _ _ n _ _
-    (steps-next _ _ _ _ _ (rows .loop .inv .4) (stops _ _ _ _ _ _ _ _ (divides .divide-row .ensures) (c .before .before .pivot .ensures) infinite))
+    (steps-next _ _ _ _ _ (rows .loop .inv .5)
+    (stops _ _ _ _ _ _ _ _ (rw (rows .loop .inv .4)) (divides .divide-row .ensures) (c .before .before .pivot .ensures) infinite))
     (λ k. refl) (omega arith))
+
+add-j : tie.Need-add-j Inv-loop μ-loop
+add-j c =
+    let row = c .before .before .before .before .before .before .before .before .before .before .before .before .before .before .before .before .before in
+    omega (arith, row .loop-test .taken, row .before .before .before .before .before .before .before .before .fits .n)
 
 loop-again : tie.Need-loop-again Inv-loop μ-loop
 loop-again c =
@@ -67,19 +66,20 @@ loop-again c =
       search needs,
       omega (arith, c .before .before .store .kept .0, divides .divide-row .kept .1 .1 .1 .0),
       search needs,
-      rw (counts .count .ensures) (le-trans (rank-grows _ _ _) (omega arith)),
-      steps-next _ _ _ _ _ (rows .loop .inv .4)
-          (rw (c .before .before .store .ensures, counts .before .kept .ensures, counts .count .ensures)
-          (goes-on _ _ _ _ _ _ _ _ (divides .divide-row .ensures) (tests .before .before .pivot .ensures) finite)),
+      rw (counts .count .ensures) (le-trans (rank-grows _ _) (omega arith)),
+      rw (counts .count .ensures, rows .loop .inv .4) (account-more _ _ _ (omega arith)),
+      steps-next _ _ _ _ _ (rows .loop .inv .5)
+          (rw (c .before .before .store .ensures, counts .before .kept-of .ensures)
+          (goes-on _ _ _ _ _ _ _ _ (rw (rows .loop .inv .4)) (divides .divide-row .ensures) (tests .before .before .pivot .ensures) finite)),
     )
 
-returns-2 : tie.Need-returns-2 Inv-loop μ-loop
+all-rows : tie.Need-returns-2 Inv-loop μ-loop
 unfolding ldlt
-returns-2 c = let clears = c .before .before .before .before in
-    let rows = clears .before .before .before in
-    let n = rows .before .before .before .args .n in
-    rw (c .before .kind-of .ensures, c .condition-of .ensures, clears .clear-upper .ensures)
-    (ap (finish n) (steps-all _ _ n _ _ (rows .loop .inv .4) (search needs) (search needs)))
+all-rows c =
+    let rows = c .before .before .before .before .before .before in
+    let n = rows .before .before .before .before .before .before .before .args .n in
+    rw (c .result-of .ensures, c .before .before .before .clear-upper .ensures, account-all _ _ _ n (rows .loop .inv .4) (search needs) (search needs))
+    (ap (finish n) (steps-all _ _ n _ _ (rows .loop .inv .5) (search needs) (search needs)))
 
 pub ldlt-decompose-core-spec : {M : Type 1} → statement M
 ldlt-decompose-core-spec =
@@ -87,24 +87,24 @@ ldlt-decompose-core-spec =
     (tie.spec
     Inv-loop
     μ-loop
-    (λ c. search kernels)
+    (λ c κs. search kernels)
+    loop-holds
     (λ c κs. search kernels)
     (λ c κs. search kernels)
     (λ c κs. search kernels)
     (λ c. search kernels)
     (λ c. search kernels)
-    returns
+    stops-early
     (λ c κs. search kernels)
     (λ c. search kernels)
     (λ c. search kernels)
     (λ c κs. search kernels)
     (λ c κs. search kernels)
-    (λ c. search kernels)
+    add-j
     (λ c. search kernels)
     loop-again
     (λ c κs. search kernels)
     (λ c κs. search kernels)
-    (λ c κs. search kernels)
     (λ c. search kernels)
     (λ c. search kernels)
-    returns-2)
+    all-rows)
