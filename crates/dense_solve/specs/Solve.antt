@@ -1,0 +1,32 @@
+-- Solves with a decomposed block, A = L D Lᵀ, L of n rows and columns: each is the kernels' definitions in the order of dense_ldlt.rs. Assumes nothing.
+use Prim.Native.Nat.{ℕ}
+use mathlib.Core.List.{List, [], _∷_}
+use lib.Ieee.{Float}
+use Rattle.refusal.specs.Refusal.{Told, verdict}
+use Rattle.refusal.specs.Check.{sizeCheck, areaCheck}
+use Rattle.kernel_lower.specs.Lower.{lowerSolve, lowerMatsolve, lowerTransposeSolve, lowerTransposeMatsolve}
+use Rattle.kernel_right.specs.Right.{lowerRightSolve, lowerTransposeRightsolve}
+use Rattle.kernel_diag.specs.Diag.{diagSolve, diagMatsolve, diagRightMatsolve}
+
+-- A⁻¹ x, x of n numbers: forward, the diagonal, backward
+unfoldable pub ldltSolve : ℕ → (l d x : List Float) → List Float
+ldltSolve n l d x = lowerTransposeSolve n l (diagSolve n d (lowerSolve n l x))
+
+-- A⁻¹ X, X of n rows and nrhs columns
+unfoldable pub ldltMatsolve : ℕ → ℕ → (l d x : List Float) → List Float
+ldltMatsolve n nrhs l d x = lowerTransposeMatsolve n nrhs l (diagMatsolve n nrhs d (lowerMatsolve n nrhs l x))
+
+-- X A⁻¹, X of m rows and n columns
+unfoldable pub ldltRightMatsolve : ℕ → ℕ → (l d x : List Float) → List Float
+ldltRightMatsolve m n l d x = lowerRightSolve m n l (diagRightMatsolve m n d (lowerTransposeRightsolve m n l x))
+
+-- ---- what is refused, by the sizes, from `least` on, and by how many numbers each slice has
+
+unfoldable pub solveVerdict : (least : ℕ) → ℕ → (l d x : ℕ) → Told
+solveVerdict least n l d x = verdict (sizeCheck least 0 n ∷ areaCheck 0 n n l ∷ areaCheck 1 n 1 d ∷ areaCheck 2 n 1 x ∷ [])
+
+unfoldable pub matsolveVerdict : ℕ → ℕ → (l d x : ℕ) → Told
+matsolveVerdict n nrhs l d x = verdict (sizeCheck 0 0 n ∷ sizeCheck 0 1 nrhs ∷ areaCheck 0 n n l ∷ areaCheck 1 n 1 d ∷ areaCheck 2 n nrhs x ∷ [])
+
+unfoldable pub rightVerdict : (least : ℕ) → ℕ → ℕ → (l d x : ℕ) → Told
+rightVerdict least m n l d x = verdict (sizeCheck least 0 m ∷ sizeCheck least 1 n ∷ areaCheck 0 n n l ∷ areaCheck 1 n 1 d ∷ areaCheck 2 m n x ∷ [])
