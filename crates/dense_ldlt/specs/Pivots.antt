@@ -1,4 +1,5 @@
--- What the stored pivots d of a block say of it. A pivot that was dropped is stored as 0.0, so d tells all. Assumes nothing.
+-- What the stored pivots d of a block say of it. Under a tolerance that passes 10 a pivot that was dropped is stored as 0.0, and no other is, so d tells all.
+-- Assumes nothing.
 use Prim.Native.Nat.{ℕ, _+_}
 use mathlib.Core.Bool.{Bool, true, false, cond, _||_}
 use mathlib.Core.List.{List, [], _∷_}
@@ -15,14 +16,14 @@ use Rattle.dense_ldlt.specs.declared.LdltResult.{LdltResult}
 
 -- before any pivot: the greatest starts at 1.0
 abbrev pub noPivots : Pivots
-noPivots = record { greatest = one; least = greatestFinite; rank = 0; zeros = false; negatives = false }
+noPivots = record { greatest = one; least = greatestFinite; rank = 0; dropped = false; negative = false }
 
 -- with one more stored pivot x
 unfoldable pub counted : Float → Pivots → Pivots
 counted x p =
     cond (eq x nought)
-    (record { greatest = p .greatest; least = p .least; rank = p .rank; zeros = true; negatives = p .negatives })
-    (record { greatest = max (p .greatest) (magnitude x); least = min (p .least) (magnitude x); rank = p .rank + 1; zeros = p .zeros; negatives = lt x nought || p .negatives })
+    (record { greatest = p .greatest; least = p .least; rank = p .rank; dropped = true; negative = p .negative })
+    (record { greatest = max (p .greatest) (magnitude x); least = min (p .least) (magnitude x); rank = p .rank + 1; dropped = p .dropped; negative = lt x nought || p .negative })
 
 -- the account of the first j of d
 unfoldable pub pivotsOf : List Float → ℕ → Pivots
@@ -35,14 +36,18 @@ rowTolerance tol d j = mul binary64 (pivotsOf d j .greatest) tol
 -- ---- the record
 
 abbrev pub definitenessOf : Pivots → Definiteness
-definitenessOf p = cond (p .negatives) Indefinite (cond (p .zeros) PositiveSemiDefinite PositiveDefinite)
+definitenessOf p = cond (p .negative) Indefinite (cond (p .dropped) PositiveSemiDefinite PositiveDefinite)
 
--- the least pivot that was kept over the greatest, and 0.0 where none was
+-- the least |d| that is not 0.0 over the greatest; 0.0 where all are 0.0
 abbrev pub conditionOf : Pivots → Float
 conditionOf p = cond (eqb (p .rank) 0) nought (div binary64 (p .least) (p .greatest))
 
-abbrev pub resultOf : Pivots → LdltResult
-resultOf p = record { rank = p .rank; definiteness = definitenessOf p; «pivot_condition» = conditionOf p }
+abbrev pub recorded : Pivots → LdltResult
+recorded p = record { rank = p .rank; definiteness = definitenessOf p; «pivot_condition» = conditionOf p }
+
+-- the record of a block, from its tolerance and its stored d: all who speak of a block's record cite this
+abbrev pub resultOf : Float → List Float → ℕ → LdltResult
+resultOf tol d n = recorded (pivotsOf d n)
 
 -- the definiteness as a number: positive definite 0, positive semi-definite 1, indefinite 2
 abbrev pub definitenessNumber : Definiteness → ℕ

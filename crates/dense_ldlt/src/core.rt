@@ -12,16 +12,21 @@ ghost use mathlib.Core.Path.{_≡_};
 ghost use mathlib.Core.Bool.{_||_};
 ghost use Prim.Native.Nat.{_+_, _*_, _≤_, _<_, _^_};
 ghost use lib.ListN.{length};
-ghost use Rattle.dense_ldlt.specs.Pivots.{counted, resultOf, definitenessOf, conditionOf};
+ghost use Rattle.dense_ldlt.specs.Pivots.{counted, recorded, definitenessOf, conditionOf};
 ghost use Rattle.dense_ldlt.specs.Ldlt.{reducedEntry, dividedBy, dividedRow, pivotOf, stored, clearUpper, ldlt};
 
 // The account of the pivots stored so far.
 pub struct Pivots {
+    // The greatest |d|, from 1.0 on.
     pub greatest: f64,
+    // The least |d| that is not 0.0.
     pub least: f64,
+    // How many are not 0.0.
     pub rank: usize,
-    pub zeros: bool,
-    pub negatives: bool,
+    // Whether one is 0.0.
+    pub dropped: bool,
+    // Whether one is below zero.
+    pub negative: bool,
 }
 
 // How the core ends: a refusal carries the row and its pivot.
@@ -41,17 +46,17 @@ pub fn ldlt_decompose_core(n: usize, a: &mut [f64], d: &mut [f64], tol: f64) -> 
         greatest: 1.0,
         least: 1.7976931348623157e308,
         rank: 0,
-        zeros: false,
-        negatives: false,
+        dropped: false,
+        negative: false,
     };
     for j in 0..n {
-        let zero = p.greatest * tol;
-        divide_row(n, j, zero, a, d);
+        let tolerance = p.greatest * tol;
+        divide_row(n, j, tolerance, a, d);
         let x = pivot(n, j, &a[..], &d[..]);
         if !is_finite(x) {
             return Factored::NotFinite { place: j, pivot: x };
         }
-        let kept = kept_of(zero, x);
+        let kept = kept_of(tolerance, x);
         d[j] = kept;
         p = count(p, kept);
         store(a, n, n, j, j, 1.0);
@@ -61,15 +66,15 @@ pub fn ldlt_decompose_core(n: usize, a: &mut [f64], d: &mut [f64], tol: f64) -> 
 }
 
 // The entries of row j left of the diagonal become those of L.
-fn divide_row(n: usize, j: usize, zero: f64, a: &mut [f64], d: &[f64])
+fn divide_row(n: usize, j: usize, tolerance: f64, a: &mut [f64], d: &[f64])
     requires { ⌜ j < n ⌝ }
     requires { ⌜ length (now a) ≡ n * n ⌝ }
     requires { ⌜ length (now d) ≡ n ⌝ }
-    ensures { λ _. ⌜ now (a .exit) ≡ dividedRow n j zero (now (d .entry)) (now (a .entry)) ⌝ }
+    ensures { λ _. ⌜ now (a .exit) ≡ dividedRow n j tolerance (now (d .entry)) (now (a .entry)) ⌝ }
 {
     for k in 0..j {
         let s = reduced(n, j, k, &a[..], d);
-        store(a, n, n, j, k, divided(zero, d[k], s));
+        store(a, n, n, j, k, divided(tolerance, d[k], s));
     }
 }
 
@@ -88,10 +93,10 @@ fn reduced(n: usize, j: usize, k: usize, a: &[f64], d: &[f64]) -> f64
 }
 
 // s / d, and 0.0 where |d| is at most the tolerance.
-fn divided(zero: f64, d: f64, s: f64) -> f64
-    ensures { λ r. ⌜ r ≡ dividedBy zero d s ⌝ }
+fn divided(tolerance: f64, d: f64, s: f64) -> f64
+    ensures { λ r. ⌜ r ≡ dividedBy tolerance d s ⌝ }
 {
-    if abs(d) <= zero { 0.0 } else { s / d }
+    if abs(d) <= tolerance { 0.0 } else { s / d }
 }
 
 // The pivot of row j: the entry (j, j), less (d(p) * L(j, p)) * L(j, p) for each p below j in turn.
@@ -109,11 +114,11 @@ fn pivot(n: usize, j: usize, a: &[f64], d: &[f64]) -> f64
     s
 }
 
-// The pivot as it is stored: 0.0 where it is at most the tolerance.
-fn kept_of(zero: f64, x: f64) -> f64
-    ensures { λ r. ⌜ r ≡ stored zero x ⌝ }
+// The pivot as it is stored: 0.0 where |x| is at most the tolerance.
+fn kept_of(tolerance: f64, x: f64) -> f64
+    ensures { λ r. ⌜ r ≡ stored tolerance x ⌝ }
 {
-    if abs(x) <= zero { 0.0 } else { x }
+    if abs(x) <= tolerance { 0.0 } else { x }
 }
 
 // The account with one more stored pivot.
@@ -126,8 +131,8 @@ fn count(p: Pivots, x: f64) -> Pivots
             greatest: p.greatest,
             least: p.least,
             rank: p.rank,
-            zeros: true,
-            negatives: p.negatives,
+            dropped: true,
+            negative: p.negative,
         };
     }
     let size = abs(x);
@@ -135,8 +140,8 @@ fn count(p: Pivots, x: f64) -> Pivots
         greatest: max(p.greatest, size),
         least: min(p.least, size),
         rank: p.rank + 1,
-        zeros: p.zeros,
-        negatives: either(x < 0.0, p.negatives),
+        dropped: p.dropped,
+        negative: either(x < 0.0, p.negative),
     }
 }
 
@@ -161,7 +166,7 @@ fn clear_upper(n: usize, a: &mut [f64])
 
 // The record, made here alone.
 fn result_of(p: Pivots) -> LdltResult
-    ensures { λ r. ⌜ r ≡ resultOf p ⌝ }
+    ensures { λ r. ⌜ r ≡ recorded p ⌝ }
 {
     LdltResult {
         rank: p.rank,
@@ -173,16 +178,16 @@ fn result_of(p: Pivots) -> LdltResult
 fn definiteness_of(p: Pivots) -> Definiteness
     ensures { λ r. ⌜ r ≡ definitenessOf p ⌝ }
 {
-    if p.negatives {
+    if p.negative {
         Definiteness::Indefinite
-    } else if p.zeros {
+    } else if p.dropped {
         Definiteness::PositiveSemiDefinite
     } else {
         Definiteness::PositiveDefinite
     }
 }
 
-// The least pivot over the greatest, and 0.0 where there is none.
+// The least |d| that is not 0.0 over the greatest, which is 1.0 at least; 0.0 where all are 0.0.
 fn condition_of(p: Pivots) -> f64
     ensures { λ r. ⌜ r ≡ conditionOf p ⌝ }
 {

@@ -20,10 +20,10 @@ pub enum Definiteness {
 
 // The record of an accepted block.
 pub struct LdltResult {
-    // How many pivots are not 0.0.
+    // How many stored pivots are not 0.0.
     pub rank: usize,
     pub definiteness: Definiteness,
-    // The least pivot that was kept over the greatest, which is 1.0 at least; 0.0 where none was kept.
+    // The least |d| that is not 0.0 over the greatest, which is 1.0 at least; 0.0 where all are 0.0.
     pub pivot_condition: f64,
 }
 
@@ -41,8 +41,8 @@ pub enum Decomposed {
 }
 
 // A of n rows and columns, whose lower triangle alone is read, becomes the unit lower triangular L, with 1.0 on the diagonal
-// and 0.0 above it, and d, of n numbers, the diagonal of D: A = L D Lᵀ. A pivot of at most the row's tolerance is dropped:
-// its d is 0.0. After 2, 10 and 12 nothing is changed; after 13 the block and d are NaNs in full.
+// and 0.0 above it, and d, of n numbers, the diagonal of D, such that A is L D Lᵀ but for rounding and dropped pivots: one
+// whose magnitude is at most the row's tolerance is stored as 0.0. After 2, 10 and 12 nothing is changed; after 13 the block and d are NaNs in full.
 pub fn ldlt_decompose_inplace(
     n: usize,
     mat_a_lower: &mut [f64],
@@ -67,8 +67,8 @@ pub fn ldlt_decompose_inplace(
     match r {
         Factored::Accepted(k) => Decomposed::Accepted(k),
         Factored::NotFinite { place, pivot } => {
-            blank(mat_a_lower, rel_tol);
-            blank(mat_d, rel_tol);
+            blank(mat_a_lower);
+            blank(mat_d);
             Decomposed::NotFinite { place, pivot }
         }
     }

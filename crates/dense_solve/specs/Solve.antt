@@ -1,4 +1,5 @@
--- Solves with a decomposed block, A = L D Lᵀ, L of n rows and columns: each is the kernels' definitions in the order of dense_ldlt.rs. Assumes nothing.
+-- Solves with a decomposed block, L of n rows and columns: each is the kernels' definitions in the order of dense_ldlt.rs. A below stands for L D Lᵀ.
+-- Assumes nothing.
 use Prim.Native.Nat.{ℕ}
 use mathlib.Core.List.{List, [], _∷_}
 use lib.Ieee.{Float}

@@ -1,4 +1,4 @@
-// Solves with a decomposed block, A = L D Lᵀ, of dense_ldlt.rs.
+// Solves with a decomposed block, of dense_ldlt.rs: A below stands for L D Lᵀ, and its inverse for the kernels' solves in turn.
 pub mod core;
 
 use crate::core::ldlt_matsolve_core;

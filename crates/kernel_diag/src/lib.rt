@@ -1,4 +1,5 @@
-// Solves with a diagonal, of kernel.rs. Where d is 0.0 the answer is 0.0, so a semi-definite block has one too.
+// Solves with a diagonal, of kernel.rs. Where d is 0.0 the vector form answers 0.0 and the matrix forms multiply by 0.0, so a
+// semi-definite block is solved with too.
 pub mod core;
 
 use crate::core::diag_matsolve_core;

@@ -21,7 +21,7 @@ lowerSolve n l y = steps (lowerRow n l) n y
 
 -- ---- L⁻ᵀ y
 
--- y(i), the t-th from the end, loses L(k, i) * y(k) for k = i + 1, .., i + t
+-- y(i), which t others follow, loses L(k, i) * y(k) for k = i + 1, .., i + t
 abbrev pub transposeRow : ℕ → List Float → ℕ → ℕ → List Float → List Float
 transposeRow n l i t y = set y i (steps (λ u s. lose s (at l n (i + 1 + u) i) (getD y (i + 1 + u) nan)) t (getD y i nan))
 

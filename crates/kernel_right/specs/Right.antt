@@ -10,7 +10,7 @@ use Rattle.refusal.specs.Check.{sizeCheck, areaCheck}
 
 -- ---- X L⁻¹, row by row
 
--- x(r, j), the u-th from the end, loses x(r, t) * L(t, j) for t = j + 1, .., j + u
+-- x(r, j), which u others follow, loses x(r, t) * L(t, j) for t = j + 1, .., j + u
 abbrev pub rightLess : ℕ → ℕ → List Float → List Float → ℕ → ℕ → ℕ → Float
 rightLess m n l x r j u = steps (λ v s. lose s (at x m r (j + 1 + v)) (at l n (j + 1 + v) j)) u (at x m r j)
 

@@ -1,5 +1,5 @@
-// The checks of sizes and shapes that every call on one block makes, 2 and 12 of document 01, and the outcome of a call
-// that refuses nothing else. `specs/Refusal.antt` has all sixteen refusals.
+// The checks of sizes and of the lengths of slices that calls on one block make, 2 and 12 of document 01, and the outcome of
+// a call that refuses nothing else. `specs/Refusal.antt` has all sixteen refusals.
 ghost use mathlib.Core.Path.{_≡_};
 ghost use mathlib.Core.Bool.{Bool};
 ghost use lib.Dec.{eqb};
@@ -8,10 +8,11 @@ ghost use Rattle.refusal.specs.Refusal.{done, firstOf, refuses};
 ghost use Rattle.refusal.specs.Check.{sizeCheck, areaCheck};
 ghost use Rattle.refusal.specs.Shaped.{told};
 
-// What an accepted call on shapes hands back: nothing yet.
+// What an accepted call on shapes hands back, beside the slice that it wrote: nothing.
 pub struct Worked {}
 
-// The outcome of a call that refuses 2 and 12 alone. A place is that of the size or of the slice in the call, from 0.
+// The outcome of a call that refuses 2 and 12 alone. Places count from 0 in the order of the call: under 2 among its sizes,
+// under 12 among its slices.
 pub enum Shaped {
     Accepted(Worked),
     // 2

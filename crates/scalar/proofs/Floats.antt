@@ -1,4 +1,4 @@
--- The laws of single floats: |x| by its sign, the greater and the lesser of two, and zero over zero. Assumes nothing.
+-- The laws of single floats: |x| by its sign, and the test for a NaN. Assumes nothing.
 use mathlib.Core.Path.{_≡_, refl, sym, _∙_, ap}
 use mathlib.Core.Bool.{Bool, true, false, not, cond, _&&_, _||_, Bool·beq}
 use Prim.Native.Nat.{ℕ, zero, suc, _+_, _*_, _/_, _%_, _^_, _≤_, _<_, compare}
@@ -9,7 +9,6 @@ use lib.IntN.{ℤ, pos, negsuc}
 use lib.Ieee as Ieee
 use lib.Ieee.{Float, nan, inf, fin, binary64, Format, up, down, fits, isNan, lt, eq, ne, neg, mul, div, round, unlike, ofBits}
 use lib.Ieee.Fits.{up-pos, down-pos}
-use lib.Ieee.Exact.{HasValue, round-exact}
 use borrow.Author.Tests.{ltb-true, ltb-false, eqb-true, eq-eqb}
 use Rattle.scalar.specs.Scalar.{nought, magnitude, max, min}
 
@@ -75,22 +74,3 @@ unfolding isNan ne eq
 nan-test nan = refl
 nan-test (inf s) = rw (same-sign s)
 nan-test (fin s m e) = rw (eq-eqb (m * up e * down e) _ refl, same-sign s)
-
--- ---- zero over zero
-
--- a number of value 0 over itself is a NaN
-of-value-zero : (z : Float) (s : Bool) (a c : ℕ) → 0 < c → a ≡ 0 → HasValue z s a c → div binary64 z z ≡ nan
-unfolding div
-of-value-zero nan s a c p q v = absurd v
-of-value-zero (inf t) s a c p q v = absurd v
-of-value-zero (fin t m e) s a c p q v =
-    rw (zero-factor m (up e) (up-pos e) (zero-factor (m * up e) c p (v .1 ∙ rw q (zero-mul (down e)))))
-
-pub zero-over-zero : (x : Float) → div binary64 (mul binary64 x nought) (mul binary64 x nought) ≡ nan
-unfolding mul div ofBits
-zero-over-zero nan = refl
-zero-over-zero (inf s) = refl
-zero-over-zero (fin s m e) =
-    let none : m * up e * (0 * up (pos 0)) ≡ 0 = mul-zero (m * up e) in
-    of-value-zero (round binary64 (unlike s false) (m * up e * (0 * up (pos 0))) (down e * down (pos 0))) (unlike s false) (m * up e * (0 * up (pos 0))) (down e * down (pos 0)) (omega (arith, down-pos e)) none
-    (round-exact binary64 (unlike s false) (m * up e * (0 * up (pos 0))) (down e * down (pos 0)) 0 0 (omega (arith, down-pos e)) (lit< tt) (lit< tt) (rw none (sym (zero-mul (down e * down (pos 0))))))

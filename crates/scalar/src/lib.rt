@@ -61,20 +61,19 @@ pub fn is_tolerance(x: f64) -> bool
     false
 }
 
-// A NaN. Where `seed` is finite its bits are 0x7FF8000000000000 on x86-64: 0.0 / 0.0 gives the other sign there, and the
-// compiler, which would fold a quotient of constants to this one, does not know the seed.
-pub fn not_a_number(seed: f64) -> f64
+// The NaN. The compiler folds this quotient of literals to the bits 0x7FF8000000000000, where the machine's own division
+// would set the sign; the logic cannot say which NaN it is, so a test of the compiled code does.
+pub fn not_a_number() -> f64
     ensures { λ r. ⌜ r ≡ nan ⌝ }
 {
-    let zero = seed * 0.0;
-    -(zero / zero)
+    0.0 / 0.0
 }
 
-// Every number becomes the NaN of that seed.
-pub fn blank(x: &mut [f64], seed: f64)
+// Every number becomes the NaN.
+pub fn blank(x: &mut [f64])
     ensures { λ _. ⌜ now (x .exit) ≡ blanked (now (x .entry)) ⌝ }
 {
-    let blank = not_a_number(seed);
+    let blank = not_a_number();
     for i in 0..x.len() {
         x[i] = blank;
     }

@@ -13,10 +13,10 @@ use Rattle.scalar.proofs.blank.Statement.{statement}
 use Rattle.scalar.proofs.blank.Tie as tie
 
 abbrev Inv-loop : tie.InvT-loop
-Inv-loop x₀ seed blank i₀ i-end x i = (i ≤ i-end) × (i-end ≡ length x₀) × (length x ≡ length x₀) × (x ≡ replicate i nan ++ drop i x₀)
+Inv-loop x₀ blank i₀ i-end x i = (i ≤ i-end) × (i-end ≡ length x₀) × (length x ≡ length x₀) × (x ≡ replicate i nan ++ drop i x₀)
 
 abbrev μ-loop : tie.MeasureT-loop
-μ-loop x₀ seed blank i₀ i-end x i = i-end - i
+μ-loop x₀ blank i₀ i-end x i = i-end - i
 
 loop-holds : tie.Need-loop-holds Inv-loop μ-loop
 loop-holds c = (search needs, search needs, search needs, refl)

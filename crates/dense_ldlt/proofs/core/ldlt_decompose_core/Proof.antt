@@ -44,8 +44,9 @@ stops-early c =
     let divides = c .before .before .before .before .before .before .before in
     let rows = divides .before .before .before .before .before in
     let n = rows .before .before .before .before .before .before .before .args .n in
+    let tol = rows .before .before .before .before .before .before .before .args .tol in
     let infinite = sym (c .before .is-finite .ensures) ∙ not-true _ (c .if1 .taken) in
-    ap (finish n)
+    ap (finish n tol)
     (steps-stuck _ _ n _ _
     (steps-next _ _ _ _ _ (rows .loop .inv .5)
     (stops _ _ _ _ _ _ _ _ (rw (rows .loop .inv .4)) (divides .divide-row .ensures) (c .before .before .pivot .ensures) infinite))
@@ -78,8 +79,9 @@ unfolding ldlt
 all-rows c =
     let rows = c .before .before .before .before .before .before in
     let n = rows .before .before .before .before .before .before .before .args .n in
+    let tol = rows .before .before .before .before .before .before .before .args .tol in
     rw (c .result-of .ensures, c .before .before .before .clear-upper .ensures, account-all _ _ _ n (rows .loop .inv .4) (search needs) (search needs))
-    (ap (finish n) (steps-all _ _ n _ _ (rows .loop .inv .5) (search needs) (search needs)))
+    (ap (finish n tol) (steps-all _ _ n _ _ (rows .loop .inv .5) (search needs) (search needs)))
 
 pub ldlt-decompose-core-spec : {M : Type 1} → statement M
 ldlt-decompose-core-spec =

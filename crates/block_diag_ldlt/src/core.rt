@@ -1,0 +1,54 @@
+// The decomposition of a block where the lengths are known to be right.
+use dense_ldlt::Definiteness;
+use dense_ldlt::LdltResult;
+use dense_ldlt::core::Factored;
+use dense_ldlt::core::ldlt_decompose_core;
+use scalar::core::copy;
+ghost use mathlib.Core.Path.{_≡_};
+ghost use Prim.Native.Nat.{_*_};
+ghost use lib.ListN.{length};
+ghost use Rattle.block_diag_ldlt.specs.Block.{isPoor, judgedAs, blockLdlt};
+
+// How the core ends.
+pub enum Settled {
+    Accepted(LdltResult),
+    NotFinite { place: usize, pivot: f64 },
+    Poor { condition: f64 },
+}
+
+// The factor l and d become those of the block a.
+pub fn decompose_core(n: usize, a: &[f64], l: &mut [f64], d: &mut [f64], tol: f64) -> Settled
+    requires { ⌜ (length (now a) ≡ n * n) × (length (now l) ≡ n * n) × (length (now d) ≡ n) ⌝ }
+    ensures { λ r. ⌜ (r, now (l .exit), now (d .exit)) ≡ blockLdlt n tol (now (a .entry)) ⌝ }
+{
+    copy(a, l);
+    let r = ldlt_decompose_core(n, l, d, tol);
+    match r {
+        Factored::Accepted(k) => judged(k),
+        Factored::NotFinite { place, pivot } => Settled::NotFinite { place, pivot },
+    }
+}
+
+// An accepted block, unless its pivots are too far apart.
+fn judged(r: LdltResult) -> Settled
+    ensures { λ s. ⌜ s ≡ judgedAs r ⌝ }
+{
+    if is_poor(r) {
+        return Settled::Poor {
+            condition: r.pivot_condition,
+        };
+    }
+    Settled::Accepted(r)
+}
+
+// Whether the block is indefinite with a condition below 1e-10.
+fn is_poor(r: LdltResult) -> bool
+    ensures { λ b. ⌜ b ≡ isPoor r ⌝ }
+{
+    let kind = r.definiteness;
+    match kind {
+        Definiteness::PositiveDefinite => false,
+        Definiteness::PositiveSemiDefinite => false,
+        Definiteness::Indefinite => r.pivot_condition < 1e-10,
+    }
+}
