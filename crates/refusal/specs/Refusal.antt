@@ -8,6 +8,9 @@ use lib.Ieee.{Float}
 pub data Told : Type 0 where
   tells : ℕ → List ℕ → List Float → Told
 
+abbrev pub number : Told → ℕ
+number (tells n is xs) = n
+
 -- ---- 0: accepted, with what the call hands back
 abbrev pub accepted : List ℕ → List Float → Told
 accepted = tells 0
