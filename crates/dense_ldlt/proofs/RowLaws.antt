@@ -8,7 +8,8 @@ use lib.Ieee.{Float}
 use Rattle.scalar.specs.Block.{put}
 use Rattle.scalar.specs.Scalar.{one, isFinite}
 use Rattle.dense_ldlt.specs.Pivots.{rowTolerance}
-use Rattle.dense_ldlt.specs.Ldlt.{dividedRow, pivotOf, stored, ldltRow, going, stopped}
+use Rattle.dense_rows.specs.Row.{dividedRow, pivotOf, stored}
+use Rattle.dense_ldlt.specs.Ldlt.{ldltRow, going, stopped}
 
 -- z is the row's tolerance, a′ the block after its divisions and x its pivot
 module _ (n j : ℕ) (tol : Float) (a d : List Float) (z : Float) (a′ : List Float) (x : Float)

@@ -1,19 +1,22 @@
-// The decomposition where the lengths are known to be right, and its steps.
+// The decomposition where the lengths are known to be right, and the account of its pivots.
 use crate::Definiteness;
 use crate::LdltResult;
+use dense_rows::core::clear_upper;
+use dense_rows::core::divide_row;
+use dense_rows::core::kept_of;
+use dense_rows::core::pivot;
 use scalar::abs;
 use scalar::clear;
-use scalar::core::entry;
 use scalar::core::store;
 use scalar::is_finite;
 use scalar::max;
 use scalar::min;
 ghost use mathlib.Core.Path.{_≡_};
 ghost use mathlib.Core.Bool.{_||_};
-ghost use Prim.Native.Nat.{_+_, _*_, _≤_, _<_, _^_};
+ghost use Prim.Native.Nat.{_+_, _*_, _<_, _^_};
 ghost use lib.ListN.{length};
 ghost use Rattle.dense_ldlt.specs.Pivots.{counted, recorded, definitenessOf, conditionOf};
-ghost use Rattle.dense_ldlt.specs.Ldlt.{reducedEntry, dividedBy, dividedRow, pivotOf, stored, clearUpper, ldlt};
+ghost use Rattle.dense_ldlt.specs.Ldlt.{ldlt};
 
 // The account of the pivots stored so far.
 pub struct Pivots {
@@ -65,62 +68,6 @@ pub fn ldlt_decompose_core(n: usize, a: &mut [f64], d: &mut [f64], tol: f64) -> 
     Factored::Accepted(result_of(p))
 }
 
-// The entries of row j left of the diagonal become those of L.
-fn divide_row(n: usize, j: usize, tolerance: f64, a: &mut [f64], d: &[f64])
-    requires { ⌜ j < n ⌝ }
-    requires { ⌜ length (now a) ≡ n * n ⌝ }
-    requires { ⌜ length (now d) ≡ n ⌝ }
-    ensures { λ _. ⌜ now (a .exit) ≡ dividedRow n j tolerance (now (d .entry)) (now (a .entry)) ⌝ }
-{
-    for k in 0..j {
-        let s = reduced(n, j, k, &a[..], d);
-        store(a, n, n, j, k, divided(tolerance, d[k], s));
-    }
-}
-
-// The entry (j, k), less (L(j, p) * d(p)) * L(k, p) for each p below k in turn.
-fn reduced(n: usize, j: usize, k: usize, a: &[f64], d: &[f64]) -> f64
-    requires { ⌜ (k ≤ j) × (j < n) ⌝ }
-    requires { ⌜ length (now a) ≡ n * n ⌝ }
-    requires { ⌜ length (now d) ≡ n ⌝ }
-    ensures { λ r. ⌜ r ≡ reducedEntry n j k (now (a .entry)) (now (d .entry)) ⌝ }
-{
-    let mut s = entry(a, n, n, j, k);
-    for p in 0..k {
-        s = s - entry(a, n, n, j, p) * d[p] * entry(a, n, n, k, p);
-    }
-    s
-}
-
-// s / d, and 0.0 where |d| is at most the tolerance.
-fn divided(tolerance: f64, d: f64, s: f64) -> f64
-    ensures { λ r. ⌜ r ≡ dividedBy tolerance d s ⌝ }
-{
-    if abs(d) <= tolerance { 0.0 } else { s / d }
-}
-
-// The pivot of row j: the entry (j, j), less (d(p) * L(j, p)) * L(j, p) for each p below j in turn.
-fn pivot(n: usize, j: usize, a: &[f64], d: &[f64]) -> f64
-    requires { ⌜ j < n ⌝ }
-    requires { ⌜ length (now a) ≡ n * n ⌝ }
-    requires { ⌜ length (now d) ≡ n ⌝ }
-    ensures { λ r. ⌜ r ≡ pivotOf n j (now (a .entry)) (now (d .entry)) ⌝ }
-{
-    let mut s = entry(a, n, n, j, j);
-    for p in 0..j {
-        let l = entry(a, n, n, j, p);
-        s = s - d[p] * l * l;
-    }
-    s
-}
-
-// The pivot as it is stored: 0.0 where |x| is at most the tolerance.
-fn kept_of(tolerance: f64, x: f64) -> f64
-    ensures { λ r. ⌜ r ≡ stored tolerance x ⌝ }
-{
-    if abs(x) <= tolerance { 0.0 } else { x }
-}
-
 // The account with one more stored pivot.
 fn count(p: Pivots, x: f64) -> Pivots
     requires { ⌜ p .rank + 1 < 2 ^ 64 ⌝ }
@@ -150,18 +97,6 @@ fn either(a: bool, b: bool) -> bool
     ensures { λ r. ⌜ r ≡ (a || b) ⌝ }
 {
     if a { true } else { b }
-}
-
-// All above the diagonal becomes 0.0.
-fn clear_upper(n: usize, a: &mut [f64])
-    requires { ⌜ length (now a) ≡ n * n ⌝ }
-    ensures { λ _. ⌜ now (a .exit) ≡ clearUpper n (now (a .entry)) ⌝ }
-{
-    for c in 0..n {
-        for r in 0..c {
-            store(a, n, n, r, c, 0.0);
-        }
-    }
 }
 
 // The record, made here alone.

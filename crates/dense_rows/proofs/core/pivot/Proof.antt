@@ -1,13 +1,13 @@
--- `dense_ldlt::core::pivot` meets its contract: a turn's result is the definition's by what `entry` ensures, which `cc` finds. Assumes nothing.
+-- `dense_rows::core::pivot` meets its contract: a turn's result is the definition's by what `entry` ensures, which `cc` finds. Assumes nothing.
 use Prim.Native.Nat.{_-_, _≤_}
 use mathlib.Core.Path.{_≡_}
 use borrow.Author.Needs.{needs}
 use Rattle.scalar.specs.Loop.{steps}
 use Rattle.scalar.specs.Block.{at}
-use Rattle.dense_ldlt.specs.Ldlt.{losePivot}
+use Rattle.dense_rows.specs.Row.{losePivot}
 use Rattle.scalar.proofs.Laws.{steps-next, kernels}
-use Rattle.dense_ldlt.proofs.core.pivot.Statement.{statement}
-use Rattle.dense_ldlt.proofs.core.pivot.Tie as tie
+use Rattle.dense_rows.proofs.core.pivot.Statement.{statement}
+use Rattle.dense_rows.proofs.core.pivot.Tie as tie
 
 abbrev Inv-loop : tie.InvT-loop
 Inv-loop n j a d s₀ p₀ s p = (p ≤ j) × (s ≡ steps (losePivot n j a d) p (at a n j j))

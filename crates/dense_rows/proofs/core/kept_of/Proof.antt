@@ -1,8 +1,8 @@
--- `dense_ldlt::core::kept_of` meets its contract: each arm returns what `cond` picks. Assumes nothing.
+-- `dense_rows::core::kept_of` meets its contract: each arm returns what `cond` picks. Assumes nothing.
 use borrow.Author.Needs.{needs}
-use Rattle.dense_ldlt.specs.Ldlt.{stored}
-use Rattle.dense_ldlt.proofs.core.kept_of.Statement.{statement}
-use Rattle.dense_ldlt.proofs.core.kept_of.Tie as tie
+use Rattle.dense_rows.specs.Row.{stored}
+use Rattle.dense_rows.proofs.core.kept_of.Statement.{statement}
+use Rattle.dense_rows.proofs.core.kept_of.Tie as tie
 
 returns : tie.Need-returns
 unfolding stored

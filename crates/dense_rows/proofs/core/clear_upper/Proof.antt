@@ -1,14 +1,14 @@
--- `dense_ldlt::core::clear_upper` meets its contract: the invariants say how far the two loops of the definition are; `search` finds the rest. Assumes nothing.
+-- `dense_rows::core::clear_upper` meets its contract: the invariants say how far the two loops of the definition are; `search` finds the rest. Assumes nothing.
 use Prim.Native.Nat.{_-_, _*_, _≤_}
 use mathlib.Core.Path.{_≡_}
 use lib.ListN.{length}
 use Rattle.scalar.specs.Loop.{steps}
 use Rattle.scalar.specs.Block.{put}
 use Rattle.scalar.specs.Scalar.{nought}
-use Rattle.dense_ldlt.specs.Ldlt.{clearColumn, clearUpper}
+use Rattle.dense_rows.specs.Row.{clearColumn, clearUpper}
 use Rattle.scalar.proofs.Laws.{kernels}
-use Rattle.dense_ldlt.proofs.core.clear_upper.Statement.{statement}
-use Rattle.dense_ldlt.proofs.core.clear_upper.Tie as tie
+use Rattle.dense_rows.proofs.core.clear_upper.Statement.{statement}
+use Rattle.dense_rows.proofs.core.clear_upper.Tie as tie
 
 abbrev Inv-loop2 : tie.InvT-loop2
 Inv-loop2 n a₀ c r₀ a r = (r ≤ c) × (length a ≡ n * n) × (a ≡ steps (λ r a. put a n r c nought) r a₀)

@@ -1,13 +1,13 @@
--- `dense_ldlt::core::reduced` meets its contract: a turn's result is the definition's by what `entry` ensures, which `cc` finds. Assumes nothing.
+-- `dense_rows::core::reduced` meets its contract: a turn's result is the definition's by what `entry` ensures, which `cc` finds. Assumes nothing.
 use Prim.Native.Nat.{_-_, _≤_}
 use mathlib.Core.Path.{_≡_}
 use borrow.Author.Needs.{needs}
 use Rattle.scalar.specs.Loop.{steps}
 use Rattle.scalar.specs.Block.{at}
-use Rattle.dense_ldlt.specs.Ldlt.{loseScaled}
+use Rattle.dense_rows.specs.Row.{loseScaled}
 use Rattle.scalar.proofs.Laws.{steps-next, kernels}
-use Rattle.dense_ldlt.proofs.core.reduced.Statement.{statement}
-use Rattle.dense_ldlt.proofs.core.reduced.Tie as tie
+use Rattle.dense_rows.proofs.core.reduced.Statement.{statement}
+use Rattle.dense_rows.proofs.core.reduced.Tie as tie
 
 abbrev Inv-loop : tie.InvT-loop
 Inv-loop n j k a d s₀ p₀ s p = (p ≤ k) × (s ≡ steps (loseScaled n j k a d) p (at a n j k))

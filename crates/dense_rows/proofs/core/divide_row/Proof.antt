@@ -1,13 +1,13 @@
--- `dense_ldlt::core::divide_row` meets its contract: a turn stores what `divided` gives of what `reduced` gives. Assumes nothing.
+-- `dense_rows::core::divide_row` meets its contract: a turn stores what `divided` gives of what `reduced` gives. Assumes nothing.
 use Prim.Native.Nat.{_-_, _*_, _≤_}
 use mathlib.Core.Path.{_≡_}
 use lib.ListN.{length}
 use borrow.Author.Needs.{needs}
 use Rattle.scalar.specs.Loop.{steps}
-use Rattle.dense_ldlt.specs.Ldlt.{divideEntry}
+use Rattle.dense_rows.specs.Row.{divideEntry}
 use Rattle.scalar.proofs.Laws.{steps-next, kernels}
-use Rattle.dense_ldlt.proofs.core.divide_row.Statement.{statement}
-use Rattle.dense_ldlt.proofs.core.divide_row.Tie as tie
+use Rattle.dense_rows.proofs.core.divide_row.Statement.{statement}
+use Rattle.dense_rows.proofs.core.divide_row.Tie as tie
 
 abbrev Inv-loop : tie.InvT-loop
 Inv-loop n j tol a₀ d k₀ a k = (k ≤ j) × (length a ≡ n * n) × (a ≡ steps (divideEntry n j tol d) k a₀)

@@ -1,8 +1,8 @@
--- `dense_ldlt::core::divided` meets its contract: each arm returns what `cond` picks. Assumes nothing.
+-- `dense_rows::core::divided` meets its contract: each arm returns what `cond` picks. Assumes nothing.
 use borrow.Author.Needs.{needs}
-use Rattle.dense_ldlt.specs.Ldlt.{dividedBy}
-use Rattle.dense_ldlt.proofs.core.divided.Statement.{statement}
-use Rattle.dense_ldlt.proofs.core.divided.Tie as tie
+use Rattle.dense_rows.specs.Row.{dividedBy}
+use Rattle.dense_rows.proofs.core.divided.Statement.{statement}
+use Rattle.dense_rows.proofs.core.divided.Tie as tie
 
 returns : tie.Need-returns
 unfolding dividedBy
