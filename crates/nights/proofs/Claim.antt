@@ -1,0 +1,16 @@
+-- Every row of the table of nights holds: both sides compute to the same. Assumes nothing.
+use mathlib.Core.Path.{refl}
+use lib.Ieee.{ofBits, neg, mul, div, lt, eq, le, isNan}
+use Rattle.scalar.specs.Loop.{steps}
+use Rattle.scalar.specs.Block.{blanked}
+use Rattle.scalar.specs.Scalar.{magnitude, isFinite, max, min}
+use Rattle.dense_rows.specs.Row.{dividedBy, stored, clearUpper}
+use Rattle.dense_ldlt.specs.Pivots.{counted, pivotsOf}
+use Rattle.dense_ldlt.specs.Ldlt.{ldlt, ldltRow}
+use Rattle.dense_ldlt.specs.Decompose as dense
+use Rattle.block_diag_ldlt.specs.Block as block
+use Rattle.nights.specs.Nights.{Hold, nights}
+
+pub claim : Hold nights
+unfolding ofBits neg mul div lt eq le isNan steps blanked magnitude isFinite max min dividedBy stored clearUpper counted pivotsOf ldlt ldltRow dense.decomposeVerdict dense.decomposed block.decomposeVerdict block.blockLdlt block.decomposed
+claim = (refl, (refl, (refl, (refl, tt))))

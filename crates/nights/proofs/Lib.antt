@@ -1,0 +1,2 @@
+-- The claim that covers the table.
+pub mod Claim

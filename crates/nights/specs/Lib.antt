@@ -1,0 +1,2 @@
+-- Document 01's nights by hand.
+pub mod Nights
