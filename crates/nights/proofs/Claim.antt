@@ -9,8 +9,11 @@ use Rattle.dense_ldlt.specs.Pivots.{counted, pivotsOf}
 use Rattle.dense_ldlt.specs.Ldlt.{ldlt, ldltRow}
 use Rattle.dense_ldlt.specs.Decompose as dense
 use Rattle.block_diag_ldlt.specs.Block as block
+use Rattle.graph.specs.Symbolic.{climb, climbs, reach, column, columns, rows}
+use Rattle.graph.specs.Count.{columnTriples, triples}
+use Rattle.graph.specs.Liu as liu
 use Rattle.nights.specs.Nights.{Hold, nights}
 
 pub claim : Hold nights
-unfolding ofBits neg mul div lt eq le isNan steps blanked magnitude isFinite max min dividedBy stored clearUpper counted pivotsOf ldlt ldltRow dense.decomposeVerdict dense.decomposed block.decomposeVerdict block.blockLdlt block.decomposed
-claim = (refl, (refl, (refl, (refl, tt))))
+unfolding liu.walk liu.walks liu.forest liu.treeParent climb climbs reach column columns rows columnTriples triples ofBits neg mul div lt eq le isNan steps blanked magnitude isFinite max min dividedBy stored clearUpper counted pivotsOf ldlt ldltRow dense.decomposeVerdict dense.decomposed block.decomposeVerdict block.blockLdlt block.decomposed
+claim = (refl, (refl, (refl, (refl, (refl, (refl, (refl, (refl, (refl, (refl, tt))))))))))
