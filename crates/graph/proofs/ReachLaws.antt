@@ -29,11 +29,11 @@ holds-map none f h = tt
 holds-map (some i) f h = f i h
 
 -- the two ways a climb goes on
-climb-stop : (parent : ℕ → Option ℕ) (j steps i : ℕ) (found : List ℕ) → T (eqb i j || elem i found) → climb parent j (suc steps) (some i) found ≡ found
+pub climb-stop : (parent : ℕ → Option ℕ) (j steps i : ℕ) (found : List ℕ) → T (eqb i j || elem i found) → climb parent j (suc steps) (some i) found ≡ found
 unfolding climb
 climb-stop parent j steps i found t = rw (true-of (eqb i j || elem i found) t, climb)
 
-climb-go : (parent : ℕ → Option ℕ) (j steps i : ℕ) (found : List ℕ) → (T (eqb i j || elem i found) → ⊥)
+pub climb-go : (parent : ℕ → Option ℕ) (j steps i : ℕ) (found : List ℕ) → (T (eqb i j || elem i found) → ⊥)
     → climb parent j (suc steps) (some i) found ≡ climb parent j steps (parent i) (i ∷ found)
 unfolding climb
 climb-go parent j steps i found t = rw (false-of (eqb i j || elem i found) t, climb)
@@ -177,7 +177,7 @@ module _ (linked : ℕ → ℕ → Bool) (n j : ℕ) (parent : ℕ → Option �
       complete k h (made {k = m} lt′ f g) =
           leads (reach linked n parent j) (reach-all .0) k m k (omega arith) (complete m (omega arith) g) lt′ h f
 
-      -- THE ROW SUBTREE THEOREM
+      -- the row subtree theorem
       pub reach-iff : (k : ℕ) → T (elem k (reach linked n parent j)) ↔ ((k < j) × Fill linked j k)
       reach-iff k = (λ m. reach-all .0 .sound k m, λ h. complete k (h .0) (h .1))
 

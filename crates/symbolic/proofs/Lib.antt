@@ -1,0 +1,4 @@
+-- What belongs to no one function. Each module says at its top what it shows.
+pub mod Walks  -- the walk over stamps is the theory's walk
+pub mod Columns  -- the passes make the theory's columns
+pub mod Passes  -- the invariants of the two passes

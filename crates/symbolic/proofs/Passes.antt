@@ -1,0 +1,193 @@
+-- The invariants of the counting pass and of the filling pass: how each begins, what it may ask, how it turns and ends. Assumes nothing.
+use Prim.Native.Nat.{ℕ, _+_, _<_, _≤_}
+use mathlib.Core.Path.{_≡_, sym, ap, subst, _∙_}
+use mathlib.Core.List.{List, []}
+use native.Mathlib.Omega.{arith}
+use native.Mathlib.Numerals.{add-one}
+use lib.Dec.{T}
+use lib.ListN.{length, getD, take, replicate, length-replicate, getD-replicate, length-map}
+use lib.Seq.{getD-take, length-take-le}
+use Rattle.graph.specs.Sets.{elem, between, sum, gather, Uniq}
+use Rattle.graph.proofs.SumLaws.{sum-ext}
+use Rattle.graph.specs.Symbolic as L
+use Rattle.graph.proofs.SymbolicLaws.{columns-length}
+use Rattle.buckets.specs.Buckets.{appends, scatter, lengths, bumps, stores, Roomy, Held, Laid, before}
+use Rattle.buckets.proofs.Lists.{map-replicate}
+use Rattle.buckets.proofs.Laws.{appends-lengths, lengths-at, scatter-few, scatter-room, held-none, held-roomy, held-appends, held-all, before-sum, laid-out}
+use Rattle.buckets.proofs.Turns.{before-small}
+use Rattle.elimination_tree.specs.Tree.{linkedUp}
+use Rattle.elimination_tree.proofs.Links.{linked-symm}
+use Rattle.symbolic.specs.Columns.{Tree, Below, found, columnsOf}
+use Rattle.symbolic.proofs.Columns.{reached-once, reached-rows, columns-made}
+
+-- no stamp is above 0 where all are 0
+pub below-none : (stamp : List ℕ) (n : ℕ) → stamp ≡ replicate n 0 → Below 0 stamp
+unfolding Below
+below-none stamp n e i h =
+    let v = ap (λ (l : List ℕ). getD l i 0) e ∙ getD-replicate n i 0 0 (subst (λ (m : ℕ). i < m) (ap length e ∙ length-replicate n 0) h) in omega arith
+
+module _ (starts rows : List ℕ) (n : ℕ) where
+  -- the columns after j turns
+  abbrev pub made : ℕ → List (List ℕ)
+  made j = scatter (found starts rows n) n j
+
+  symm : (a b : ℕ) → T (linkedUp starts rows a b) → T (linkedUp starts rows b a)
+  symm a b t = linked-symm starts rows a b t
+
+  once : (i : ℕ) → i < n → Uniq (found starts rows n i)
+  once i h = reached-once (linkedUp starts rows) n symm i h
+
+  pub all-made : made n ≡ columnsOf starts rows n
+  all-made = columns-made (linkedUp starts rows) n symm
+
+  -- a column that reaches j is before j, and is not full yet
+  pub not-full : (j k : ℕ) → j < n → T (elem k (found starts rows n j)) → (k < n) × (length (getD (made j) k []) < length (getD (columnsOf starts rows n) k []))
+  not-full j k h t =
+      let b : k < j = reached-rows (linkedUp starts rows) n symm j k h .0 t .0 in
+      let r = scatter-room (found starts rows n) n once j k h (omega arith) t in
+      (omega arith, subst (λ (c : List (List ℕ)). length (getD (made j) k []) < length (getD c k [])) all-made r)
+
+  made-next : (j : ℕ) → made (j + 1) ≡ appends j (found starts rows n j) (made j)
+  unfolding scatter
+  made-next j = ap made (add-one j)
+
+  -- ---- the counting pass
+
+  pub record Counting (parent stamp out count : List ℕ) (j : ℕ) : Type 0 where
+    pub tree : Tree n starts rows parent
+    pub sizes : (length stamp ≡ n) × (length out ≡ n) × (length count ≡ n)
+    pub below : Below j stamp
+    pub inside : j ≤ n
+    pub same : count ≡ lengths (made j)
+
+  pub count-begins : (parent stamp out count : List ℕ) → Tree n starts rows parent → stamp ≡ replicate n 0 → length out ≡ n → count ≡ replicate n 0 → Counting parent stamp out count 0
+  unfolding scatter
+  count-begins parent stamp out count t es lo ec = record {
+    tree = t;
+    sizes = (ap length es ∙ length-replicate n 0, lo, ap length ec ∙ length-replicate n 0);
+    below = below-none stamp n es;
+    inside = omega arith;
+    same = ec ∙ sym (map-replicate {A = List ℕ} {B = ℕ} length n []);
+  }
+
+  module _ (parent stamp out count : List ℕ) (j : ℕ) (g : Counting parent stamp out count j) where
+    module _ (h : j < n) (part : List ℕ) (e : part ≡ found starts rows n j) where
+      -- what `tally` asks
+      pub count-asks : Uniq part × Roomy part count 4294967295
+      unfolding Roomy
+      count-asks = rw e (
+        once j h,
+        λ k m.
+            let r = not-full j k h m in
+            let few = scatter-few (found starts rows n) n once j k (omega arith) (r .0) in
+            let v : getD count k 0 ≡ length (getD (made j) k []) = ap (λ (l : List ℕ). getD l k 0) (g .same) ∙ lengths-at (made j) k in
+            (omega (arith, g .sizes .2), omega (arith, g .tree .pattern .few)),
+      )
+
+      pub count-turns : (stamp′ out′ count′ : List ℕ) → length stamp′ ≡ n → length out′ ≡ n → length count′ ≡ n → Below (j + 1) stamp′ → count′ ≡ bumps part count → Counting parent stamp′ out′ count′ (j + 1)
+      count-turns stamp′ out′ count′ ls lo lc b ec = record {
+        tree = g .tree;
+        sizes = (ls, lo, lc);
+        below = b;
+        inside = omega arith;
+        same = ec ∙ ap (λ (l : List ℕ). bumps l count) e ∙ ap (bumps (found starts rows n j)) (g .same) ∙ sym (appends-lengths j (found starts rows n j) (made j)) ∙ ap lengths (sym (made-next j));
+      }
+
+    pub count-ends : n ≤ j → count ≡ lengths (columnsOf starts rows n)
+    count-ends h = let all : j ≡ n = omega (arith, g .inside) in g .same ∙ ap (λ (m : ℕ). lengths (made m)) all ∙ ap lengths all-made
+
+  -- ---- the filling pass
+
+  -- the places of column k
+  abbrev pub size : ℕ → ℕ
+  size k = length (getD (columnsOf starts rows n) k [])
+
+  pub record Filling (parent heads stamp out next table : List ℕ) (j : ℕ) : Type 0 where
+    pub tree : Tree n starts rows parent
+    pub sizes : (length stamp ≡ n) × (length out ≡ n)
+    pub small : length table < 4294967296
+    pub first : getD heads 0 0 ≡ 0
+    pub below : Below j stamp
+    pub inside : j ≤ n
+    pub held : Held n size heads next table (made j)
+
+  pub fill-begins : (parent heads stamp out next table : List ℕ) → Tree n starts rows parent → stamp ≡ replicate n 0 → length out ≡ n
+      → Laid (columnsOf starts rows n) heads (length table) → next ≡ take n heads → Filling parent heads stamp out next table 0
+  unfolding scatter
+  fill-begins parent heads stamp out next table t es lo l en =
+      let c = columns-length (linkedUp starts rows) n n in
+      record {
+        tree = t;
+        sizes = (ap length es ∙ length-replicate n 0, lo);
+        small = l .small;
+        first = l .first;
+        below = below-none stamp n es;
+        inside = omega arith;
+        held = held-none n size heads next table (ap length en ∙ length-take-le n heads (omega (arith, l .count)))
+            (λ k h. l .laid k (omega arith)) (ap (λ (m : ℕ). getD heads m 0) (sym c) ∙ l .whole)
+            (λ k h. ap (λ (x : List ℕ). getD x k 0) en ∙ getD-take n heads k 0 h);
+      }
+
+  module _ (parent heads stamp out next table : List ℕ) (j : ℕ) (g : Filling parent heads stamp out next table j) where
+    module _ (h : j < n) (part : List ℕ) (e : part ≡ found starts rows n j) where
+      room : (k : ℕ) → T (elem k part) → (k < n) × (length (getD (made j) k []) < size k)
+      room k m = not-full j k h (subst (λ (l : List ℕ). T (elem k l)) e m)
+
+      once-part : Uniq part
+      once-part = subst Uniq (sym e) (once j h)
+
+      -- what `append_all` asks
+      pub fill-asks : Uniq part × Roomy part next (length table) × (length table < 4294967296)
+      fill-asks = (once-part, held-roomy n size heads next table (made j) (g .held) part room, g .small)
+
+      pub fill-turns : (stamp′ out′ next′ table′ : List ℕ) → length stamp′ ≡ n → length out′ ≡ n → length table′ ≡ length table → Below (j + 1) stamp′
+          → next′ ≡ bumps part next → table′ ≡ stores j part next table → Filling parent heads stamp′ out′ next′ table′ (j + 1)
+      fill-turns stamp′ out′ next′ table′ ls lo lt b en et = record {
+        tree = g .tree;
+        sizes = (ls, lo);
+        small = subst (λ (m : ℕ). m < 4294967296) (sym lt) (g .small);
+        first = g .first;
+        below = b;
+        inside = omega arith;
+        held = subst (Held n size heads next′ table′) (ap (λ (l : List ℕ). appends j l (made j)) e ∙ sym (made-next j))
+            (rw (en, et) (held-appends n size heads next table (made j) (g .held) j part once-part room));
+      }
+
+    pub fill-ends : n ≤ j → table ≡ gather (L.rows (linkedUp starts rows) n) (between 0 n)
+    unfolding L.rows
+    fill-ends h =
+        let all : j ≡ n = omega (arith, g .inside) in
+        let same : made j ≡ columnsOf starts rows n = ap made all ∙ all-made in
+        held-all n size heads next table (made j) (g .held) (λ k b. ap (λ (c : List (List ℕ)). length (getD c k [])) same) (g .first)
+        ∙ ap (λ (c : List (List ℕ)). gather (λ k. getD c k []) (between 0 n)) same
+
+  -- ---- the layout
+
+  module _ (count : List ℕ) (few : n ≤ 4096) (e : count ≡ lengths (columnsOf starts rows n)) where
+    pub counts-length : length count ≡ n
+    counts-length = ap length e ∙ length-map {A = List ℕ} {B = ℕ} (columnsOf starts rows n) length ∙ columns-length (linkedUp starts rows) n n
+
+    -- no column has more rows than there are blocks
+    pub counts-few : (k : ℕ) → k < length count → getD count k 0 ≤ 65536
+    counts-few k h =
+        let b : k < n = subst (λ (m : ℕ). k < m) counts-length h in
+        let v : getD count k 0 ≡ length (getD (made n) k []) = ap (λ (l : List ℕ). getD l k 0) e ∙ lengths-at (columnsOf starts rows n) k ∙ ap (λ (c : List (List ℕ)). length (getD c k [])) (sym all-made) in
+        let r = scatter-few (found starts rows n) n once n k (omega arith) b in
+        omega arith
+
+    module _ (heads : List ℕ) (total : ℕ) (places : length heads ≡ n + 1) (all : total ≡ before count (length count))
+        (listed : (k : ℕ) → k ≤ length count → getD heads k 0 ≡ before count k) where
+      pub layout-total : total ≡ sum (between 0 n) (λ k. length (L.rows (linkedUp starts rows) n k))
+      unfolding L.rows
+      layout-total =
+          all ∙ ap (before count) counts-length ∙ before-sum count n
+          ∙ sum-ext (between 0 n) (λ i. getD count i 0) (λ k. length (getD (columnsOf starts rows n) k [])) (λ k m. ap (λ (l : List ℕ). getD l k 0) e ∙ lengths-at (columnsOf starts rows n) k)
+
+      pub layout-laid : Laid (columnsOf starts rows n) heads total
+      layout-laid =
+          let c = columns-length (linkedUp starts rows) n n in
+          let small = before-small count (length count) counts-few (omega arith) in
+          let same : before count (length count) ≡ before (lengths (columnsOf starts rows n)) (length (columnsOf starts rows n)) =
+          ap (λ (l : List ℕ). before l (length count)) e ∙ ap (before (lengths (columnsOf starts rows n))) (counts-length ∙ sym c) in
+          laid-out (columnsOf starts rows n) heads total (places ∙ ap (λ (m : ℕ). m + 1) (sym c)) (omega (arith, counts-length)) (all ∙ same)
+          (λ k h. listed k (omega (arith, counts-length)) ∙ ap (λ (l : List ℕ). before l k) e)
