@@ -9,7 +9,7 @@ use lib.Ieee.{Float}
 use Rattle.scalar.specs.Scalar.{isTolerance}
 use Rattle.refusal.specs.Refusal.{Told, badDimension, badTolerance, shapesDisagree, refuses}
 use Rattle.refusal.proofs.Laws.{size-small, size-large, size-fits, area-differs, area-fits}
-use Rattle.block_diag_ldlt.specs.Block.{decomposeVerdict, blockLdlt, spoilt, decomposed}
+use Rattle.block_diag_ldlt.specs.Block.{decomposeVerdict, blockLdlt, toldSettled, decomposed}
 
 module _ (n : ℕ) (a l d : List Float) (tol : Float) where
   refused-as : (v : Told) → refuses v ≡ true → decomposeVerdict n tol (length a) (length l) (length d) ≡ v → (v, l, d) ≡ decomposed n a l d tol
@@ -48,7 +48,7 @@ module _ (n : ℕ) (a l d : List Float) (tol : Float) where
               refused-as _ refl
               (rw (size-fits 1 0 n positive small, tolerable, area-fits 0 n n (length a) block, area-fits 1 n n (length l) factor, area-differs 2 n 1 (length d) (λ k. h (omega arith))))
 
-          pub passes : length d ≡ n → spoilt (blockLdlt n tol a) ≡ decomposed n a l d tol
+          pub passes : length d ≡ n → toldSettled (blockLdlt n tol a) ≡ decomposed n a l d tol
           unfolding decomposed decomposeVerdict
           passes k =
               rw (size-fits 1 0 n positive small, tolerable, area-fits 0 n n (length a) block, area-fits 1 n n (length l) factor, area-fits 2 n 1 (length d) (omega arith))

@@ -1,10 +1,10 @@
 -- One block of the diagonal: module 6 of document 01, without the fallback. The solves are those of Rattle.dense_solve.specs.Solve. Assumes nothing.
-use Prim.Native.Nat.{ℕ}
+use Prim.Native.Nat.{ℕ, _*_}
 use mathlib.Core.Bool.{Bool, false, cond}
 use mathlib.Core.List.{List, [], _∷_}
 use lib.ListN.{length}
 use lib.Ieee.{Float, binary64, lt, ofBits}
-use Rattle.scalar.specs.Block.{blanked}
+use Rattle.scalar.specs.Block.{nans}
 use Rattle.refusal.specs.Refusal.{Told, verdict, refuses, badDimension, badTolerance, shapesDisagree, pivotNotFinite, poorlyConditioned}
 use Rattle.refusal.specs.Check.{sizeCheck, toleranceCheck, areaCheck}
 use Rattle.dense_ldlt.specs.Pivots.{toldResult}
@@ -41,16 +41,14 @@ poorAt Indefinite condition = lt condition threshold
 abbrev pub isPoor : LdltResult → Bool
 isPoor r = poorAt (r .definiteness) (r .«pivot_condition»)
 
-abbrev pub judgedAs : LdltResult → Settled
-judgedAs r = cond (isPoor r) (settled.Poor (r .«pivot_condition»)) (settled.Accepted r)
+-- how the decomposition of n rows settles, the factor and d: spoilt where the block is poor
+abbrev pub settle : ℕ → Factored × List Float × List Float → Settled × List Float × List Float
+settle n (factored.Accepted r, l, d) = cond (isPoor r) (settled.Poor (r .«pivot_condition»), nans (n * n), nans n) (settled.Accepted r, l, d)
+settle n (factored.NotFinite place pivot, l, d) = (settled.NotFinite place pivot, l, d)
 
--- how a decomposition settles, the factor and d
-abbrev pub settle : Factored × List Float × List Float → Settled × List Float × List Float
-settle (factored.Accepted r, l, d) = (judgedAs r, l, d)
-settle (factored.NotFinite place pivot, l, d) = (settled.NotFinite place pivot, l, d)
-
+-- the answer, the factor and d: after 13 and 14 NaNs in full
 unfoldable pub blockLdlt : ℕ → Float → List Float → Settled × List Float × List Float
-blockLdlt n tol a = settle (ldlt n tol a)
+blockLdlt n tol a = settle n (ldlt n tol a)
 
 -- ---- for any arguments
 
@@ -58,14 +56,14 @@ blockLdlt n tol a = settle (ldlt n tol a)
 unfoldable pub decomposeVerdict : ℕ → Float → (a l d : ℕ) → Told
 decomposeVerdict n tol a l d = verdict (sizeCheck 1 0 n ∷ toleranceCheck tol ∷ areaCheck 0 n n a ∷ areaCheck 1 n n l ∷ areaCheck 2 n 1 d ∷ [])
 
--- after 13 and 14 the factor and d are NaNs in full
-abbrev pub spoilt : Settled × List Float × List Float → Told × List Float × List Float
-spoilt (settled.Accepted r, l, d) = (toldResult r, l, d)
-spoilt (settled.NotFinite place pivot, l, d) = (pivotNotFinite 0 place pivot, blanked l, blanked d)
-spoilt (settled.Poor condition, l, d) = (poorlyConditioned 0 condition, blanked l, blanked d)
+-- what the core answers, in document 01's number and values
+abbrev pub toldSettled : Settled × List Float × List Float → Told × List Float × List Float
+toldSettled (settled.Accepted r, l, d) = (toldResult r, l, d)
+toldSettled (settled.NotFinite place pivot, l, d) = (pivotNotFinite 0 place pivot, l, d)
+toldSettled (settled.Poor condition, l, d) = (poorlyConditioned 0 condition, l, d)
 
 -- the answer, the factor and d
 unfoldable pub decomposed : ℕ → (a l d : List Float) → Float → Told × List Float × List Float
 decomposed n a l d tol =
     let v = decomposeVerdict n tol (length a) (length l) (length d) in
-    cond (refuses v) (v, l, d) (spoilt (blockLdlt n tol a))
+    cond (refuses v) (v, l, d) (toldSettled (blockLdlt n tol a))

@@ -3,11 +3,12 @@ use dense_ldlt::Definiteness;
 use dense_ldlt::LdltResult;
 use dense_ldlt::core::Factored;
 use dense_ldlt::core::ldlt_decompose_core;
+use scalar::blank;
 use scalar::core::copy;
 ghost use mathlib.Core.Path.{_≡_};
 ghost use Prim.Native.Nat.{_*_};
 ghost use lib.ListN.{length};
-ghost use Rattle.block_diag_ldlt.specs.Block.{isPoor, judgedAs, blockLdlt};
+ghost use Rattle.block_diag_ldlt.specs.Block.{isPoor, blockLdlt};
 
 // How the core ends.
 pub enum Settled {
@@ -16,7 +17,7 @@ pub enum Settled {
     Poor { condition: f64 },
 }
 
-// The factor l and d become those of the block a.
+// The factor l and d become those of the block a; where that is refused both are NaNs in full.
 pub fn decompose_core(n: usize, a: &[f64], l: &mut [f64], d: &mut [f64], tol: f64) -> Settled
     requires { ⌜ (length (now a) ≡ n * n) × (length (now l) ≡ n * n) × (length (now d) ≡ n) ⌝ }
     ensures { λ r. ⌜ (r, now (l .exit), now (d .exit)) ≡ blockLdlt n tol (now (a .entry)) ⌝ }
@@ -24,21 +25,18 @@ pub fn decompose_core(n: usize, a: &[f64], l: &mut [f64], d: &mut [f64], tol: f6
     copy(a, l);
     let r = ldlt_decompose_core(n, l, d, tol);
     match r {
-        Factored::Accepted(k) => judged(k),
+        Factored::Accepted(k) => {
+            if is_poor(k) {
+                blank(l);
+                blank(d);
+                return Settled::Poor {
+                    condition: k.pivot_condition,
+                };
+            }
+            Settled::Accepted(k)
+        }
         Factored::NotFinite { place, pivot } => Settled::NotFinite { place, pivot },
     }
-}
-
-// An accepted block, unless its pivots are too far apart.
-fn judged(r: LdltResult) -> Settled
-    ensures { λ s. ⌜ s ≡ judgedAs r ⌝ }
-{
-    if is_poor(r) {
-        return Settled::Poor {
-            condition: r.pivot_condition,
-        };
-    }
-    Settled::Accepted(r)
 }
 
 // Whether the block is indefinite with a condition below 1e-10.

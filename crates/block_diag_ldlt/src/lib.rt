@@ -11,7 +11,6 @@ use dense_solve::core::right_shapes;
 use dense_solve::core::solve_shapes;
 use refusal::Shaped;
 use refusal::refused;
-use scalar::blank;
 use scalar::is_tolerance;
 ghost use mathlib.Core.Path.{_≡_};
 ghost use lib.ListN.{length};
@@ -66,16 +65,8 @@ pub fn decompose(
     let r = decompose_core(n, mat_a, mat_l, d, tol_rel);
     match r {
         Settled::Accepted(k) => Decomposed::Accepted(k),
-        Settled::NotFinite { place, pivot } => {
-            blank(mat_l);
-            blank(d);
-            Decomposed::NotFinite { place, pivot }
-        }
-        Settled::Poor { condition } => {
-            blank(mat_l);
-            blank(d);
-            Decomposed::Poor { condition }
-        }
+        Settled::NotFinite { place, pivot } => Decomposed::NotFinite { place, pivot },
+        Settled::Poor { condition } => Decomposed::Poor { condition },
     }
 }
 

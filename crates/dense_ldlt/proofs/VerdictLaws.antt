@@ -11,7 +11,7 @@ use Rattle.refusal.specs.Refusal.{Told, done, badDimension, badTolerance, shape
 use Rattle.refusal.specs.Check.{sizeCheck, toleranceCheck, areaCheck}
 use Rattle.refusal.proofs.Laws.{verdict-stops, verdict-goes, size-large, size-fits, area-differs, area-fits}
 use Rattle.dense_ldlt.specs.Ldlt.{ldlt}
-use Rattle.dense_ldlt.specs.Decompose.{decomposeVerdict, spoilt, decomposed}
+use Rattle.dense_ldlt.specs.Decompose.{decomposeVerdict, toldFactored, decomposed}
 
 module _ (n : ℕ) (a d : List Float) (tol : Float) where
   refused-as : (v : Told) → refuses v ≡ true → decomposeVerdict n tol (length a) (length d) ≡ v → (v, a, d) ≡ decomposed n a d tol
@@ -37,6 +37,6 @@ module _ (n : ℕ) (a d : List Float) (tol : Float) where
         refused-as _ refl
         (rw (size-fits 0 0 n (omega arith) small, tolerable, area-fits 0 n n (length a) e, area-differs 1 n 1 (length d) (λ k. h (omega arith))))
 
-    pub passes : length a ≡ n * n → length d ≡ n → spoilt (ldlt n tol a) ≡ decomposed n a d tol
+    pub passes : length a ≡ n * n → length d ≡ n → toldFactored (ldlt n tol a) ≡ decomposed n a d tol
     unfolding decomposed decomposeVerdict
     passes e k = rw (size-fits 0 0 n (omega arith) small, tolerable, area-fits 0 n n (length a) e, area-fits 1 n 1 (length d) (omega arith))

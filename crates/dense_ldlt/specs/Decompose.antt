@@ -4,7 +4,6 @@ use mathlib.Core.Bool.{cond}
 use mathlib.Core.List.{List, [], _∷_}
 use lib.ListN.{length}
 use lib.Ieee.{Float}
-use Rattle.scalar.specs.Block.{blanked}
 use Rattle.refusal.specs.Refusal.{Told, verdict, refuses, badDimension, badTolerance, shapesDisagree, pivotNotFinite}
 use Rattle.refusal.specs.Check.{sizeCheck, toleranceCheck, areaCheck}
 use Rattle.dense_ldlt.specs.Pivots.{toldResult}
@@ -26,13 +25,13 @@ told (NotFinite place pivot) = pivotNotFinite 0 place pivot
 unfoldable pub decomposeVerdict : ℕ → Float → (a d : ℕ) → Told
 decomposeVerdict n tol a d = verdict (sizeCheck 0 0 n ∷ toleranceCheck tol ∷ areaCheck 0 n n a ∷ areaCheck 1 n 1 d ∷ [])
 
--- after a pivot that is not finite, the block and d are NaNs in full
-abbrev pub spoilt : Factored × List Float × List Float → Told × List Float × List Float
-spoilt (factored.Accepted r, a, d) = (toldResult r, a, d)
-spoilt (factored.NotFinite place pivot, a, d) = (pivotNotFinite 0 place pivot, blanked a, blanked d)
+-- what the core answers, in document 01's number and values
+abbrev pub toldFactored : Factored × List Float × List Float → Told × List Float × List Float
+toldFactored (factored.Accepted r, a, d) = (toldResult r, a, d)
+toldFactored (factored.NotFinite place pivot, a, d) = (pivotNotFinite 0 place pivot, a, d)
 
 -- the answer, the block and d
 unfoldable pub decomposed : ℕ → List Float → List Float → Float → Told × List Float × List Float
 decomposed n a d tol =
     let v = decomposeVerdict n tol (length a) (length d) in
-    cond (refuses v) (v, a, d) (spoilt (ldlt n tol a))
+    cond (refuses v) (v, a, d) (toldFactored (ldlt n tol a))

@@ -6,7 +6,7 @@ use dense_rows::core::divide_row;
 use dense_rows::core::kept_of;
 use dense_rows::core::pivot;
 use scalar::abs;
-use scalar::clear;
+use scalar::blank;
 use scalar::core::store;
 use scalar::is_finite;
 use scalar::max;
@@ -38,13 +38,13 @@ pub enum Factored {
     NotFinite { place: usize, pivot: f64 },
 }
 
-// The lower triangle of A becomes that of L, with 1.0 on the diagonal and 0.0 above it, and d the diagonal of D.
+// The lower triangle of A becomes that of L, with 1.0 on the diagonal and 0.0 above it, and d the diagonal of D; after a pivot
+// that is not finite both are NaNs in full.
 pub fn ldlt_decompose_core(n: usize, a: &mut [f64], d: &mut [f64], tol: f64) -> Factored
     requires { ⌜ length (now a) ≡ n * n ⌝ }
     requires { ⌜ length (now d) ≡ n ⌝ }
     ensures { λ r. ⌜ (r, now (a .exit), now (d .exit)) ≡ ldlt n tol (now (a .entry)) ⌝ }
 {
-    clear(d);
     let mut p = Pivots {
         greatest: 1.0,
         least: 1.7976931348623157e308,
@@ -57,6 +57,8 @@ pub fn ldlt_decompose_core(n: usize, a: &mut [f64], d: &mut [f64], tol: f64) -> 
         divide_row(n, j, tolerance, a, d);
         let x = pivot(n, j, &a[..], &d[..]);
         if !is_finite(x) {
+            blank(a);
+            blank(d);
             return Factored::NotFinite { place: j, pivot: x };
         }
         let kept = kept_of(tolerance, x);

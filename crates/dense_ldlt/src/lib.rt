@@ -3,7 +3,6 @@ pub mod core;
 
 use crate::core::Factored;
 use crate::core::ldlt_decompose_core;
-use scalar::blank;
 use scalar::is_tolerance;
 ghost use mathlib.Core.Path.{_≡_};
 ghost use Rattle.dense_ldlt.specs.Decompose.{told, decomposed};
@@ -66,10 +65,6 @@ pub fn ldlt_decompose_inplace(
     let r = ldlt_decompose_core(n, mat_a_lower, mat_d, rel_tol);
     match r {
         Factored::Accepted(k) => Decomposed::Accepted(k),
-        Factored::NotFinite { place, pivot } => {
-            blank(mat_a_lower);
-            blank(mat_d);
-            Decomposed::NotFinite { place, pivot }
-        }
+        Factored::NotFinite { place, pivot } => Decomposed::NotFinite { place, pivot },
     }
 }

@@ -1,5 +1,5 @@
 -- One row of the LDLᵀ decomposition of a block A of n rows and columns: module 2 of document 01. Only the lower triangle of A is read. Assumes nothing.
-use Prim.Native.Nat.{ℕ}
+use Prim.Native.Nat.{ℕ, _+_, _-_}
 use mathlib.Core.Bool.{cond}
 use mathlib.Core.List.{List}
 use lib.ListN.{getD}
@@ -47,8 +47,8 @@ stored tolerance x = cond (le (magnitude x) tolerance) nought x
 -- ---- above the diagonal
 
 -- all above the diagonal becomes 0.0
-abbrev pub clearColumn : ℕ → ℕ → List Float → List Float
-clearColumn n c a = steps (λ r a. put a n r c nought) c a
+abbrev pub clearRow : ℕ → ℕ → List Float → List Float
+clearRow n r a = steps (λ u a. put a n r (r + 1 + u) nought) (n - 1 - r) a
 
 unfoldable pub clearUpper : ℕ → List Float → List Float
-clearUpper n a = steps (clearColumn n) n a
+clearUpper n a = steps (clearRow n) n a

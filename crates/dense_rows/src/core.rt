@@ -1,5 +1,5 @@
 // The steps of the decomposition of a block where the lengths are known to be right.
-use scalar::abs;
+use scalar::at_most;
 use scalar::core::entry;
 use scalar::core::store;
 ghost use mathlib.Core.Path.{_≡_};
@@ -38,7 +38,7 @@ fn reduced(n: usize, j: usize, k: usize, a: &[f64], d: &[f64]) -> f64
 fn divided(tolerance: f64, d: f64, s: f64) -> f64
     ensures { λ r. ⌜ r ≡ dividedBy tolerance d s ⌝ }
 {
-    if abs(d) <= tolerance { 0.0 } else { s / d }
+    if at_most(d, tolerance) { 0.0 } else { s / d }
 }
 
 // The pivot of row j: the entry (j, j), less (d(p) * L(j, p)) * L(j, p) for each p below j in turn.
@@ -60,7 +60,7 @@ pub fn pivot(n: usize, j: usize, a: &[f64], d: &[f64]) -> f64
 pub fn kept_of(tolerance: f64, x: f64) -> f64
     ensures { λ r. ⌜ r ≡ stored tolerance x ⌝ }
 {
-    if abs(x) <= tolerance { 0.0 } else { x }
+    if at_most(x, tolerance) { 0.0 } else { x }
 }
 
 // All above the diagonal becomes 0.0.
@@ -68,9 +68,10 @@ pub fn clear_upper(n: usize, a: &mut [f64])
     requires { ⌜ length (now a) ≡ n * n ⌝ }
     ensures { λ _. ⌜ now (a .exit) ≡ clearUpper n (now (a .entry)) ⌝ }
 {
-    for c in 0..n {
-        for r in 0..c {
-            store(a, n, n, r, c, 0.0);
+    for r in 0..n {
+        let others = n - 1 - r;
+        for u in 0..others {
+            store(a, n, n, r, r + 1 + u, 0.0);
         }
     }
 }

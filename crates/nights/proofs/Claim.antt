@@ -2,7 +2,6 @@
 use mathlib.Core.Path.{refl}
 use lib.Ieee.{ofBits, neg, mul, div, lt, eq, le, isNan}
 use Rattle.scalar.specs.Loop.{steps}
-use Rattle.scalar.specs.Block.{blanked}
 use Rattle.scalar.specs.Scalar.{magnitude, isFinite, max, min}
 use Rattle.dense_rows.specs.Row.{dividedBy, stored, clearUpper}
 use Rattle.dense_ldlt.specs.Pivots.{counted, pivotsOf}
@@ -15,5 +14,5 @@ use Rattle.graph.specs.Liu as liu
 use Rattle.nights.specs.Nights.{Hold, nights}
 
 pub claim : Hold nights
-unfolding liu.walk liu.walks liu.forest liu.treeParent climb climbs reach column columns rows columnTriples triples ofBits neg mul div lt eq le isNan steps blanked magnitude isFinite max min dividedBy stored clearUpper counted pivotsOf ldlt ldltRow dense.decomposeVerdict dense.decomposed block.decomposeVerdict block.blockLdlt block.decomposed
+unfolding liu.walk liu.walks liu.forest liu.treeParent climb climbs reach column columns rows columnTriples triples ofBits neg mul div lt eq le isNan steps magnitude isFinite max min dividedBy stored clearUpper counted pivotsOf ldlt ldltRow dense.decomposeVerdict dense.decomposed block.decomposeVerdict block.blockLdlt block.decomposed
 claim = (refl, (refl, (refl, (refl, (refl, (refl, (refl, (refl, (refl, (refl, tt))))))))))

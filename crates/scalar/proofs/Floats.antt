@@ -1,16 +1,17 @@
 -- The laws of single floats: |x| by its sign, and the test for a NaN. Assumes nothing.
-use mathlib.Core.Path.{_≡_, refl, sym, _∙_, ap}
-use mathlib.Core.Bool.{Bool, true, false, not, cond, _&&_, _||_, Bool·beq}
-use Prim.Native.Nat.{ℕ, zero, suc, _+_, _*_, _/_, _%_, _^_, _≤_, _<_, compare}
-use native.Mathlib.Nat.{zero-div, zero-mod, zero-mul, mul-zero, suc-mul, pow-suc}
+use mathlib.Core.Path.{_≡_, refl, sym, ap}
+use mathlib.Core.Logic.{_⊎_, inl, inr}
+use mathlib.Core.Bool.{Bool, true, false, _&&_, _||_, Bool·beq}
+use Prim.Native.Nat.{ℕ, zero, suc, zero-le, _+_, _*_, _<_}
+use native.Mathlib.Nat.{zero-mul, suc-mul, pow-suc}
 use native.Mathlib.Omega.{arith}
-use lib.Dec.{T, ltb, leb, eqb, lit<}
+use lib.Dec.{eqb}
 use lib.IntN.{ℤ, pos, negsuc}
 use lib.Ieee as Ieee
-use lib.Ieee.{Float, nan, inf, fin, binary64, Format, up, down, fits, isNan, lt, eq, ne, neg, mul, div, round, unlike, ofBits}
-use lib.Ieee.Fits.{up-pos, down-pos}
-use borrow.Author.Tests.{ltb-true, ltb-false, eqb-true, eq-eqb}
-use Rattle.scalar.specs.Scalar.{nought, magnitude, max, min}
+use lib.Ieee.{Float, nan, inf, fin, binary64, up, down, fits, isNan, below, level, lt, eq, le, ne, neg, ofBits}
+use lib.Ieee.Fits.{up-pos}
+use borrow.Author.Tests.{ltb-true, ltb-false, lt-ltb, le-ltb, eqb-true, eq-eqb, ne-eqb}
+use Rattle.scalar.specs.Scalar.{nought, magnitude}
 
 -- ---- numbers
 
@@ -62,6 +63,30 @@ magnitude-positive (fin true m e) h k =
     let clash : true ≡ false = rw (same, zero) at k in
     cc
 magnitude-positive (fin false m e) h k = refl
+
+-- a comparison does not see the sign of a zero
+zero-sign : (b : ℕ) (s : Bool) → (b ≡ 0) ⊎ (0 < b) → (below true 0 s b || level true 0 s b) ≡ (below false 0 s b || level false 0 s b)
+zero-sign b true (inl e) = rw e
+zero-sign b false (inl e) = rw e
+zero-sign b true (inr h) = let ne : (0 ≡ b → ⊥) = λ e. omega arith in rw (le-ltb b 0 zero-le, ne-eqb 0 b ne)
+zero-sign b false (inr h) = let h′ : 0 < 0 + b = omega arith in rw (lt-ltb 0 b h, lt-ltb 0 (0 + b) h′)
+
+zero-or-more : (b : ℕ) → (b ≡ 0) ⊎ (0 < b)
+zero-or-more zero = inl refl
+zero-or-more (suc b) = inr (omega arith)
+
+pub at-most-positive : (x t : Float) → lt x nought ≡ false → le x t ≡ le (magnitude x) t
+unfolding lt eq le magnitude ofBits
+at-most-positive nan t h = refl
+at-most-positive (inf true) t h = cc
+at-most-positive (inf false) t h = refl
+at-most-positive (fin false m e) t h = refl
+at-most-positive (fin true m e) nan h = refl
+at-most-positive (fin true m e) (inf s) h = refl
+at-most-positive (fin true m e) (fin s n d) h =
+    let none : m * up e * down (pos 0) ≡ 0 = omega (arith, ltb-false 0 (m * up e * down (pos 0) + 0 * up (pos 0) * down e) h) in
+    let zero : m * up e * down d ≡ 0 = rw (zero-factor m (up e) (up-pos e) (omega arith), zero-mul, zero-mul) in
+    rw zero (zero-sign (n * up d * down e) s (zero-or-more (n * up d * down e)))
 
 -- ---- a NaN differs from itself, and nothing else does
 

@@ -42,6 +42,13 @@ module _ {A : Type 0} (f : ℕ → A → A) where
       (λ q. sym (s n) ∙ ap (f n) (steps-stuck i n a₀ a e s (le-of-suc-le-suc q)))
       (eq-or-lt-of-le p)
 
+-- two loops whose turns agree below n leave the same
+module _ {A : Type 0} (f g : ℕ → A → A) where
+  pub steps-same : (n : ℕ) → ((k : ℕ) (a : A) → k < n → f k a ≡ g k a) → (a : A) → steps f n a ≡ steps g n a
+  unfolding steps
+  steps-same zero same a = refl
+  steps-same (suc n) same a = same n (steps f n a) (omega arith) ∙ ap (g n) (steps-same n (λ k b h. same k b (omega arith)) a)
+
 -- what `search` is handed at a need of a kernel
 pub ruleset kernels = (needs, steps-none, steps-more, steps-next, steps-all)
 

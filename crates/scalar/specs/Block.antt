@@ -1,7 +1,7 @@
 -- Blocks of floats: lists, column by column, the entry (r, c) of a block of height h at r + c * h. Assumes nothing.
 use Prim.Native.Nat.{ℕ, _+_, _*_}
 use mathlib.Core.List.{List, _++_}
-use lib.ListN.{length, getD, set, take, drop, replicate}
+use lib.ListN.{getD, set, take, drop, replicate}
 use lib.Ieee.{Float, nan, binary64, add, sub, mul}
 use Rattle.scalar.specs.Scalar.{nought}
 
@@ -28,6 +28,6 @@ within off n f x = take off x ++ (f (take n (drop off x)) ++ drop n (drop off x)
 abbrev pub zeros : ℕ → List Float
 zeros n = replicate n nought
 
--- as many NaNs as x has numbers
-unfoldable pub blanked : List Float → List Float
-blanked x = replicate (length x) nan
+-- NaNs, n of them: a spoilt buffer
+abbrev pub nans : ℕ → List Float
+nans n = replicate n nan

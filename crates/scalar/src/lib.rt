@@ -2,9 +2,9 @@
 pub mod core;
 
 ghost use mathlib.Core.Path.{_≡_};
-ghost use lib.Ieee.{nan};
+ghost use lib.Ieee.{nan, le};
 ghost use lib.ListN.{length};
-ghost use Rattle.scalar.specs.Block.{blanked, zeros};
+ghost use Rattle.scalar.specs.Block.{nans, zeros};
 ghost use Rattle.scalar.specs.Scalar.{magnitude, isFinite, max, min, isTolerance};
 
 // |x|: the sign goes, also that of -0.0.
@@ -18,6 +18,13 @@ pub fn abs(x: f64) -> f64
     } else {
         x
     }
+}
+
+// Whether |x| is at most t.
+pub fn at_most(x: f64, t: f64) -> bool
+    ensures { λ r. ⌜ r ≡ le (magnitude x) t ⌝ }
+{
+    if x < 0.0 { -x <= t } else { x <= t }
 }
 
 // Whether x is no NaN and no infinity.
@@ -71,7 +78,7 @@ pub fn not_a_number() -> f64
 
 // Every number becomes the NaN.
 pub fn blank(x: &mut [f64])
-    ensures { λ _. ⌜ now (x .exit) ≡ blanked (now (x .entry)) ⌝ }
+    ensures { λ _. ⌜ now (x .exit) ≡ nans (length (now (x .entry))) ⌝ }
 {
     let blank = not_a_number();
     for i in 0..x.len() {

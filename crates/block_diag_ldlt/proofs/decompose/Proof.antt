@@ -7,7 +7,7 @@ use borrow.Author.Tests.{not-true, not-false}
 use denote.Ref.{now}
 use Rattle.scalar.specs.Scalar.{isTolerance}
 use Rattle.scalar.proofs.Laws.{area-fits}
-use Rattle.block_diag_ldlt.specs.Block.{blockLdlt, spoilt, decomposed}
+use Rattle.block_diag_ldlt.specs.Block.{blockLdlt, toldSettled, decomposed}
 use Rattle.block_diag_ldlt.proofs.VerdictLaws.{too-small, too-large, bad-tolerance, other-block, other-factor, other-d, passes}
 use Rattle.block_diag_ldlt.proofs.decompose.Statement.{statement}
 use Rattle.block_diag_ldlt.proofs.decompose.Tie as tie
@@ -41,7 +41,7 @@ mismatch-d c =
 
 -- past all tests
 passed : (c : tie.Else6) → let x = c .before .before .before .before .before .before .before .before .before .before .args in
-    spoilt (blockLdlt (x .n) (x .tol-rel) (now (x .mat-a))) ≡ decomposed (x .n) (now (x .mat-a)) (now (x .mat-l)) (now (x .d)) (x .tol-rel)
+    toldSettled (blockLdlt (x .n) (x .tol-rel) (now (x .mat-a))) ≡ decomposed (x .n) (now (x .mat-a)) (now (x .mat-l)) (now (x .d)) (x .tol-rel)
 passed c =
     passes _ _ _ _ _ (c .before .before .before .before .before .before .if1 .left) (c .before .before .before .before .before .if2 .left) (tolerable (c .before .before .before))
     (c .before .before .if4 .left) (c .before .if5 .left) (c .if6 .left)
@@ -49,25 +49,21 @@ passed c =
 accepted : tie.Need-returns-7
 accepted c =
     let core = c .before .before .before .before .before .before .before in
-    ap spoilt (rw (c .before .r .given .1) at (core .decompose-core .ensures)) ∙ passed (core .before .before .before)
+    ap toldSettled (rw (c .before .r .given .1) at (core .decompose-core .ensures)) ∙ passed (core .before .before .before)
 
 not-finite : tie.Need-returns-8
 not-finite c =
-    let match = c .before .before .before .before .before .before .before .before .before in
-    let core = match .before .before .before .before .before .before in
-    rw (c .before .before .before .before .before .before .blank .ensures, c .before .before .blank2 .ensures)
-    (ap spoilt (rw (match .r2 .given .1) at (core .decompose-core .ensures)) ∙ passed (core .before .before .before))
+    let core = c .before .before .before .before .before .before .before in
+    ap toldSettled (rw (c .before .r2 .given .1) at (core .decompose-core .ensures)) ∙ passed (core .before .before .before)
 
 poor : tie.Need-returns-9
 poor c =
-    let match = c .before .before .before .before .before .before .before .before .before in
-    let core = match .before .before .before .before .before .before in
-    rw (c .before .before .before .before .before .before .blank3 .ensures, c .before .before .blank4 .ensures)
-    (ap spoilt (rw (match .r3 .given .1) at (core .decompose-core .ensures)) ∙ passed (core .before .before .before))
+    let core = c .before .before .before .before .before .before .before in
+    ap toldSettled (rw (c .before .r3 .given .1) at (core .decompose-core .ensures)) ∙ passed (core .before .before .before)
 
 pub decompose-spec : {M : Type 1} → statement M
 decompose-spec =
     tie.close
     (tie.spec no-rows large (λ c κs. search needs) intolerable (λ c. area-fits _ _ (omega arith)) mismatch-a (λ c. area-fits _ _ (omega arith)) mismatch-l mismatch-d
-    (λ c κs. search needs) (λ c. search needs) (λ c. search needs) (λ c κs. search needs) (λ c κs. search needs) (λ c. search needs) (λ c κs. search needs) (λ c κs. search needs)
+    (λ c κs. search needs) (λ c. search needs) (λ c. search needs) (λ c. search needs)
     (λ c. search needs) (λ c. search needs) accepted (λ c. search needs) (λ c. search needs) not-finite (λ c. search needs) (λ c. search needs) poor)

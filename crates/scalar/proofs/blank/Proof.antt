@@ -7,7 +7,6 @@ use lib.Ieee.{nan}
 use native.Mathlib.Omega.{arith}
 use borrow.Author.Needs.{needs}
 use denote.Ref.{now}
-use Rattle.scalar.specs.Block.{blanked}
 use Rattle.scalar.proofs.Laws.{fill-more, fill-all, kernels}
 use Rattle.scalar.proofs.blank.Statement.{statement}
 use Rattle.scalar.proofs.blank.Tie as tie
@@ -31,7 +30,6 @@ loop-again c =
     )
 
 returns : tie.Need-returns Inv-loop μ-loop
-unfolding blanked
 returns c = fill-all _ (c .before .loop .i) (now (c .before .before .before .before .args .x)) _ (c .before .loop .inv .3) (omega arith) (omega arith)
 
 pub blank-spec : {M : Type 1} → statement M
