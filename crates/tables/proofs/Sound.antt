@@ -1,0 +1,53 @@
+-- Tables that pass are sound: no check refuses, so each search ran to its end. Assumes nothing.
+use Prim.Native.Nat.{ℕ}
+use mathlib.Core.Bool.{false}
+use mathlib.Core.List.{List}
+use mathlib.Core.Path.{_≡_}
+use lib.Ieee.{Float}
+use lib.ListN.{length}
+use Rattle.refusal.specs.Refusal.{refuses}
+use Rattle.refusal.proofs.Laws.{all-pass}
+use Rattle.tables.specs.Verdict.{systemChecks, systemVerdict, factorChecks, factorVerdict, upperChecks, upperVerdict, fromDiagonal, pastDiagonal, anyRow}
+use Rattle.tables.specs.Sound.{Columns, SystemSound, FactorSound, UpperSound}
+use Rattle.tables.proofs.CheckLaws.{blocks-pass, dims-pass, starts-pass, stored-pass, rows-pass, order-pass, values-pass, perm-pass, late-pass, tolerance-pass}
+use Rattle.tables.proofs.TableLaws.{sizes-of, ordered-of, columns-of, stored-half, stored-limit, permutes-of, flags-of}
+
+pub system-sound : (dims starts rows : List ℕ) (values : List Float) (perm late : List ℕ) (tol : Float) → refuses (systemVerdict dims starts rows values perm late tol) ≡ false → SystemSound dims starts rows values perm late tol
+unfolding systemVerdict
+system-sound dims starts rows values perm late tol e =
+    let p = all-pass (systemChecks dims starts rows values perm late tol) e in
+    let o = ordered-of starts (length dims) (length rows) (starts-pass _ _ _ (p .1 .1 .0)) in
+    let f = flags-of late (length dims) (late-pass _ _ (p .1 .1 .1 .1 .1 .1 .1 .1 .0)) in
+    record {
+      blocks = blocks-pass _ (p .0);
+      sizes = sizes-of dims (dims-pass _ (p .1 .0));
+      stored = stored-pass _ (p .1 .1 .1 .0);
+      columns = columns-of fromDiagonal (length dims) starts rows o (rows-pass _ _ _ _ (p .1 .1 .1 .1 .0)) (order-pass _ _ _ (p .1 .1 .1 .1 .1 .0));
+      counted = values-pass _ _ _ _ (p .1 .1 .1 .1 .1 .1 .0);
+      permutes = permutes-of perm (length dims) (perm-pass _ _ (p .1 .1 .1 .1 .1 .1 .1 .0));
+      flags = f .0;
+      flagged = f .1;
+      tolerance = tolerance-pass _ (p .1 .1 .1 .1 .1 .1 .1 .1 .1 .0);
+    }
+
+pub factor-sound : (dims starts rows : List ℕ) (values : List Float) → refuses (factorVerdict dims starts rows values) ≡ false → FactorSound dims starts rows values
+unfolding factorVerdict
+factor-sound dims starts rows values e =
+    let p = all-pass (factorChecks dims starts rows values) e in
+    let o = ordered-of starts (length dims) (length rows) (starts-pass _ _ _ (p .1 .1 .0)) in
+    let c : Columns pastDiagonal (length dims) starts rows = columns-of pastDiagonal (length dims) starts rows o (rows-pass _ _ _ _ (p .1 .1 .1 .0)) (order-pass _ _ _ (p .1 .1 .1 .1 .0)) in
+    record {
+      blocks = blocks-pass _ (p .0);
+      sizes = sizes-of dims (dims-pass _ (p .1 .0));
+      columns = c;
+      half = stored-half c;
+      stored = stored-limit c (blocks-pass _ (p .0));
+      counted = values-pass _ _ _ _ (p .1 .1 .1 .1 .1 .0);
+    }
+
+pub upper-sound : (n : ℕ) (starts rows : List ℕ) → refuses (upperVerdict n starts rows) ≡ false → UpperSound n starts rows
+unfolding upperVerdict
+upper-sound n starts rows e =
+    let p = all-pass (upperChecks n starts rows) e in
+    let o = ordered-of starts n (length rows) (starts-pass _ _ _ (p .1 .0)) in
+    record { blocks = blocks-pass _ (p .0); columns = columns-of anyRow n starts rows o (rows-pass _ _ _ _ (p .1 .1 .0)) (order-pass _ _ _ (p .1 .1 .1 .0)) }

@@ -1,0 +1,30 @@
+-- `tables::core::first_start` meets its contract: a search, one turn a place. Assumes nothing.
+use Prim.Native.Nat.{_-_, _+_, zero-le}
+use native.Mathlib.Omega.{arith}
+use Rattle.tables.specs.Verdict.{startOk}
+use Rattle.tables.proofs.SearchLaws.{Searched, searched, passed, failed, ended}
+use Rattle.tables.proofs.core.first_start.Statement.{statement}
+use Rattle.tables.proofs.core.first_start.Tie as tie
+
+abbrev Inv-loop : tie.InvT-loop
+Inv-loop starts n m i₀ i = Searched (startOk starts n m) 0 (n + 2) i
+
+abbrev μ-loop : tie.MeasureT-loop
+μ-loop starts n m i₀ i = n + 2 - i
+
+loop-holds : tie.Need-loop-holds Inv-loop μ-loop
+loop-holds c = searched (zero-le)
+
+returns : tie.Need-returns Inv-loop μ-loop
+returns c = failed (c .before .before .before .loop .inv) (omega arith) (c .before .start-ok .ensures) (c .if1 .taken)
+
+loop-again : tie.Need-loop-again Inv-loop μ-loop
+loop-again c = passed (c .before .before .before .loop .inv) (omega arith) (c .before .start-ok .ensures) (c .if1 .left)
+
+returns-2 : tie.Need-returns-2 Inv-loop μ-loop
+returns-2 c = ended (c .before .loop .inv) (omega arith)
+
+pub first-start-spec : {M : Type 1} → statement M
+first-start-spec =
+    tie.close
+    (tie.spec Inv-loop μ-loop loop-holds (λ c. omega arith) (λ c κs. tt) returns (λ c. omega arith) (λ c. omega arith) loop-again returns-2)

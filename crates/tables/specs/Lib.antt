@@ -1,0 +1,5 @@
+-- What the contracts of `tables` cite. Each module says at its top what it holds.
+pub mod Search
+pub mod Verdict
+pub mod Sound
+pub mod Outcome

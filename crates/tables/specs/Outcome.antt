@@ -1,0 +1,47 @@
+-- What the outcome of each call says, in document 01's words. Assumes nothing.
+use Prim.Native.Nat.{ℕ}
+use Rattle.refusal.specs.Refusal.{Told, done, tooManyBlocks, badDimension, badStarts, tooManyStored, outOfRange, notIncreasing, badValueCount, badPermutation, badLateFlags, badTolerance}
+use Rattle.tables.specs.Verdict.{fromDiagonal, pastDiagonal, anyRow}
+use Rattle.tables.specs.declared.System.{System}
+use Rattle.tables.specs.declared.System.the-variants as system
+use Rattle.tables.specs.declared.Factor.{Factor}
+use Rattle.tables.specs.declared.Factor.the-variants as factor
+use Rattle.tables.specs.declared.Upper.{Upper}
+use Rattle.tables.specs.declared.Upper.the-variants as upper
+use Rattle.tables.specs.declared.core.Least.{Least}
+use Rattle.tables.specs.declared.core.Least.the-variants as least
+
+abbrev pub toldSystem : System → Told
+toldSystem (system.Accepted w) = done
+toldSystem system.Blocks = tooManyBlocks
+toldSystem (system.Dimension place) = badDimension place
+toldSystem (system.Starts place) = badStarts place
+toldSystem system.Stored = tooManyStored
+toldSystem (system.Row place) = outOfRange place
+toldSystem (system.Order place) = notIncreasing place
+toldSystem system.Values = badValueCount
+toldSystem (system.Permutation place) = badPermutation place
+toldSystem (system.Late place) = badLateFlags place
+toldSystem system.Tolerance = badTolerance
+
+abbrev pub toldFactor : Factor → Told
+toldFactor (factor.Accepted w) = done
+toldFactor factor.Blocks = tooManyBlocks
+toldFactor (factor.Dimension place) = badDimension place
+toldFactor (factor.Starts place) = badStarts place
+toldFactor (factor.Row place) = outOfRange place
+toldFactor (factor.Order place) = notIncreasing place
+toldFactor factor.Values = badValueCount
+
+abbrev pub toldUpper : Upper → Told
+toldUpper (upper.Accepted w) = done
+toldUpper upper.Blocks = tooManyBlocks
+toldUpper (upper.Starts place) = badStarts place
+toldUpper (upper.Row place) = outOfRange place
+toldUpper (upper.Order place) = notIncreasing place
+
+-- the least row of a column, by the code's name for it
+abbrev pub leastRow : Least → ℕ → ℕ
+leastRow least.Diagonal = fromDiagonal
+leastRow least.PastDiagonal = pastDiagonal
+leastRow least.Any = anyRow

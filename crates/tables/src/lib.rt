@@ -1,0 +1,186 @@
+// The checks of tables, 1 to 10 of document 01, on any input whatever: accepted, or the refusal with the lowest number, at its
+// first place. No table is read by the column starts before these have passed.
+pub mod core;
+
+use crate::core::Least;
+use crate::core::first_dim;
+use crate::core::first_fall;
+use crate::core::first_late;
+use crate::core::first_perm;
+use crate::core::first_row;
+use crate::core::first_start;
+use crate::core::total_area;
+use refusal::Worked;
+use scalar::is_tolerance;
+ghost use mathlib.Core.Path.{_≡_};
+ghost use Rattle.tables.specs.Verdict.{systemVerdict, factorVerdict, upperVerdict};
+ghost use Rattle.tables.specs.Outcome.{toldSystem, toldFactor, toldUpper};
+
+// The most blocks of a system, and the most blocks that A stores.
+pub const MAX_BLOCKS: usize = 4096;
+
+pub const MAX_STORED: usize = 65536;
+
+// The outcome of a check of A's tables, the permutation, the late flags and the tolerance.
+pub enum System {
+    Accepted(Worked),
+    // 1
+    Blocks,
+    // 2: the block.
+    Dimension { place: usize },
+    // 3: the entry of the column starts.
+    Starts { place: usize },
+    // 4
+    Stored,
+    // 5: the entry of the row table.
+    Row { place: usize },
+    // 6: the entry of the row table.
+    Order { place: usize },
+    // 7
+    Values,
+    // 8: the entry of the permutation.
+    Permutation { place: usize },
+    // 9: the late flag.
+    Late { place: usize },
+    // 10
+    Tolerance,
+}
+
+// The outcome of a check of a factor's tables; places as above.
+pub enum Factor {
+    Accepted(Worked),
+    // 1
+    Blocks,
+    // 2
+    Dimension { place: usize },
+    // 3
+    Starts { place: usize },
+    // 5
+    Row { place: usize },
+    // 6
+    Order { place: usize },
+    // 7
+    Values,
+}
+
+// The outcome of a check of an upper pattern; places as above.
+pub enum Upper {
+    Accepted(Worked),
+    // 1
+    Blocks,
+    // 3
+    Starts { place: usize },
+    // 5
+    Row { place: usize },
+    // 6
+    Order { place: usize },
+}
+
+// The tables of A, whose column j stores rows j and beyond, with the permutation, the late flags and the tolerance.
+pub fn check_system(
+    dims: &[u32],
+    starts: &[u32],
+    rows: &[u32],
+    values: &[f64],
+    perm: &[u32],
+    late: &[u32],
+    tol: f64,
+) -> System
+    ensures { λ r. ⌜ toldSystem r ≡ systemVerdict (now (dims .entry)) (now (starts .entry)) (now (rows .entry)) (now (values .entry)) (now (perm .entry)) (now (late .entry)) tol ⌝ }
+{
+    let n = dims.len();
+    if n > MAX_BLOCKS {
+        return System::Blocks;
+    }
+    let k2 = first_dim(dims);
+    if k2 < n {
+        return System::Dimension { place: k2 };
+    }
+    let m = rows.len();
+    let k3 = first_start(starts, n, m);
+    if k3 < n + 2 {
+        return System::Starts { place: k3 };
+    }
+    if m > MAX_STORED {
+        return System::Stored;
+    }
+    let k5 = first_row(starts, rows, n, Least::Diagonal);
+    if k5 < m {
+        return System::Row { place: k5 };
+    }
+    let k6 = first_fall(starts, rows, n);
+    if k6 < m {
+        return System::Order { place: k6 };
+    }
+    let need = total_area(dims, starts, rows);
+    if values.len() != need {
+        return System::Values;
+    }
+    let k8 = first_perm(perm, n);
+    if k8 < n + 1 {
+        return System::Permutation { place: k8 };
+    }
+    let k9 = first_late(late, n);
+    if k9 < n + 1 {
+        return System::Late { place: k9 };
+    }
+    if !is_tolerance(tol) {
+        return System::Tolerance;
+    }
+    System::Accepted(Worked {})
+}
+
+// The tables of a factor, whose column j stores rows past j.
+pub fn check_factor(dims: &[u32], starts: &[u32], rows: &[u32], values: &[f64]) -> Factor
+    ensures { λ r. ⌜ toldFactor r ≡ factorVerdict (now (dims .entry)) (now (starts .entry)) (now (rows .entry)) (now (values .entry)) ⌝ }
+{
+    let n = dims.len();
+    if n > MAX_BLOCKS {
+        return Factor::Blocks;
+    }
+    let k2 = first_dim(dims);
+    if k2 < n {
+        return Factor::Dimension { place: k2 };
+    }
+    let m = rows.len();
+    let k3 = first_start(starts, n, m);
+    if k3 < n + 2 {
+        return Factor::Starts { place: k3 };
+    }
+    let k5 = first_row(starts, rows, n, Least::PastDiagonal);
+    if k5 < m {
+        return Factor::Row { place: k5 };
+    }
+    let k6 = first_fall(starts, rows, n);
+    if k6 < m {
+        return Factor::Order { place: k6 };
+    }
+    let need = total_area(dims, starts, rows);
+    if values.len() != need {
+        return Factor::Values;
+    }
+    Factor::Accepted(Worked {})
+}
+
+// An upper pattern of n blocks, whose columns may store any block's row.
+pub fn check_upper(n: usize, starts: &[u32], rows: &[u32]) -> Upper
+    ensures { λ r. ⌜ toldUpper r ≡ upperVerdict n (now (starts .entry)) (now (rows .entry)) ⌝ }
+{
+    if n > MAX_BLOCKS {
+        return Upper::Blocks;
+    }
+    let m = rows.len();
+    let k3 = first_start(starts, n, m);
+    if k3 < n + 2 {
+        return Upper::Starts { place: k3 };
+    }
+    let k5 = first_row(starts, rows, n, Least::Any);
+    if k5 < m {
+        return Upper::Row { place: k5 };
+    }
+    let k6 = first_fall(starts, rows, n);
+    if k6 < m {
+        return Upper::Order { place: k6 };
+    }
+    Upper::Accepted(Worked {})
+}
