@@ -11,6 +11,7 @@ use Rattle.tables.specs.declared.Upper.the-variants as upper
 use Rattle.tables.specs.declared.core.Least.{Least}
 use Rattle.tables.specs.declared.core.Least.the-variants as least
 
+-- of a check of A's tables, the permutation, the late flags and the tolerance
 abbrev pub toldSystem : System → Told
 toldSystem (system.Accepted w) = done
 toldSystem system.Blocks = tooManyBlocks
@@ -24,6 +25,7 @@ toldSystem (system.Permutation place) = badPermutation place
 toldSystem (system.Late place) = badLateFlags place
 toldSystem system.Tolerance = badTolerance
 
+-- of a check of a factor's tables
 abbrev pub toldFactor : Factor → Told
 toldFactor (factor.Accepted w) = done
 toldFactor factor.Blocks = tooManyBlocks
@@ -33,6 +35,7 @@ toldFactor (factor.Row place) = outOfRange place
 toldFactor (factor.Order place) = notIncreasing place
 toldFactor factor.Values = badValueCount
 
+-- of a check of an upper pattern
 abbrev pub toldUpper : Upper → Told
 toldUpper (upper.Accepted w) = done
 toldUpper upper.Blocks = tooManyBlocks

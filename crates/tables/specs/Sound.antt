@@ -47,11 +47,12 @@ pub record Measured (dims starts rows : List ℕ) : Type 0 where
   pub below : (p : ℕ) → p < length rows → at rows p < length dims
   pub few : length rows ≤ 16777216
 
--- a mark for each number below 4,096: 1 at those that are among xs, 0 at the others
+-- a mark: 1 for true, 0 for false
 abbrev pub flag : Bool → ℕ
 flag true = 1
 flag false = 0
 
+-- a mark for each number below 4,096, of those that are among xs
 pub record Marked (seen xs : List ℕ) : Type 0 where
   pub long : length seen ≡ 4096
   pub marks : (v : ℕ) → v < 4096 → at seen v ≡ flag (elem v xs)

@@ -120,13 +120,15 @@ lateCheck late n = faultIn (lateOk late n) (n + 1) badLateFlags
 
 -- ---- the verdicts: the checks of a call by number. 5 to 7 read the rows by the starts, so they come to speak only after 3
 
--- column j of A stores rows j and beyond, of a factor rows past j, of an upper pattern any
+-- the least row of column j: of A, which stores rows j and beyond
 abbrev pub fromDiagonal : ℕ → ℕ
 fromDiagonal j = j
 
+-- of a factor, which stores rows past j
 abbrev pub pastDiagonal : ℕ → ℕ
 pastDiagonal j = j + 1
 
+-- of an upper pattern, where rows j and beyond are skipped and not refused
 abbrev pub anyRow : ℕ → ℕ
 anyRow j = 0
 
@@ -147,6 +149,7 @@ systemChecks dims starts rows values perm late tol =
     ∷ toleranceCheck tol
     ∷ []
 
+-- the verdict of `check_system`
 unfoldable pub systemVerdict : (dims starts rows : List ℕ) → (values : List Float) → (perm late : List ℕ) → (tol : Float) → Told
 systemVerdict dims starts rows values perm late tol = verdict (systemChecks dims starts rows values perm late tol)
 
@@ -162,6 +165,7 @@ factorChecks dims starts rows values =
     ∷ valuesCheck dims starts rows (length values)
     ∷ []
 
+-- the verdict of `check_factor`
 unfoldable pub factorVerdict : (dims starts rows : List ℕ) → (values : List Float) → Told
 factorVerdict dims starts rows values = verdict (factorChecks dims starts rows values)
 
@@ -169,5 +173,6 @@ factorVerdict dims starts rows values = verdict (factorChecks dims starts rows v
 abbrev pub upperChecks : (n : ℕ) → (starts rows : List ℕ) → List Told
 upperChecks n starts rows = blocksCheck n ∷ startsCheck starts n (length rows) ∷ rowsCheck anyRow starts rows n ∷ orderCheck starts rows n ∷ []
 
+-- the verdict of `check_upper`
 unfoldable pub upperVerdict : (n : ℕ) → (starts rows : List ℕ) → Told
 upperVerdict n starts rows = verdict (upperChecks n starts rows)

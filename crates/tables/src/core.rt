@@ -9,7 +9,7 @@ ghost use Rattle.tables.specs.Verdict.{at, dimOk, risesAt, startOk, rowO
 ghost use Rattle.tables.specs.Sound.{Sizes, Ordered, Measured, Marked};
 ghost use Rattle.tables.specs.Outcome.{leastRow};
 
-// The least row that column j may store: j in A, j + 1 in a factor, 0 in an upper pattern.
+// What the least row of column j is: j in A, j + 1 in a factor, 0 in an upper pattern.
 pub enum Least {
     Diagonal,
     PastDiagonal,
@@ -23,6 +23,7 @@ pub fn wide(x: u32) -> usize
     x as usize
 }
 
+// The least row that column j may store.
 pub fn least_row(least: Least, j: usize) -> usize
     requires { ⌜ j < 4096 ⌝ }
     ensures { λ r. ⌜ r ≡ leastRow least j ⌝ }
@@ -34,6 +35,7 @@ pub fn least_row(least: Least, j: usize) -> usize
     }
 }
 
+// The dimension of block k is 1 to 16.
 pub fn dim_ok(dims: &[u32], k: usize) -> bool
     requires { ⌜ k < length (now dims) ⌝ }
     ensures { λ r. ⌜ r ≡ dimOk (now (dims .entry)) k ⌝ }
@@ -69,6 +71,7 @@ pub fn rises(starts: &[u32], k: usize) -> bool
     b <= s
 }
 
+// The starts of n columns over m rows are right at place k.
 pub fn start_ok(starts: &[u32], n: usize, m: usize, k: usize) -> bool
     ensures { λ r. ⌜ r ≡ startOk (now (starts .entry)) n m k ⌝ }
 {
@@ -102,6 +105,7 @@ pub fn first_start(starts: &[u32], n: usize, m: usize) -> usize
     i
 }
 
+// The row at place p is in from..n.
 pub fn row_ok(rows: &[u32], n: usize, from: usize, p: usize) -> bool
     requires { ⌜ p < length (now rows) ⌝ }
     ensures { λ r. ⌜ r ≡ rowOk (now (rows .entry)) n from p ⌝ }
@@ -144,6 +148,7 @@ pub fn first_row(starts: &[u32], rows: &[u32], n: usize, least: Least) -> usize
     rows.len()
 }
 
+// The row at place p is the first of its column, which starts at lo, or above the one before.
 pub fn order_ok(rows: &[u32], lo: usize, p: usize) -> bool
     requires { ⌜ p < length (now rows) ⌝ }
     ensures { λ r. ⌜ r ≡ orderOk (now (rows .entry)) lo p ⌝ }
@@ -224,7 +229,7 @@ pub fn total_area(dims: &[u32], starts: &[u32], rows: &[u32]) -> usize
     s
 }
 
-// `seen` marks the entries before k.
+// The permutation of n blocks is right at place k; `seen` marks the entries before.
 pub fn perm_ok(perm: &[u32], n: usize, k: usize, seen: &[u8; 4096]) -> bool
     requires { ⌜ (n ≤ 4096) × Marked (now seen) (take k (now perm)) ⌝ }
     ensures { λ r. ⌜ r ≡ permOk (now (perm .entry)) n k ⌝ }
@@ -264,6 +269,7 @@ pub fn first_perm(perm: &[u32], n: usize) -> usize
     i + 1
 }
 
+// The late flags of n blocks are right at place k.
 pub fn late_ok(late: &[u32], n: usize, k: usize) -> bool
     ensures { λ r. ⌜ r ≡ lateOk (now (late .entry)) n k ⌝ }
 {
