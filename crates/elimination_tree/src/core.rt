@@ -50,7 +50,7 @@ fn column(parent: &mut [u32], ancestor: &mut [u32], rows: &[u32], from: usize, t
 }
 
 // The tree: its parents, from an upper pattern of as many blocks as there are places for parents. `ancestor` is scratch.
-pub fn new(starts: &[u32], rows: &[u32], parent: &mut [u32], ancestor: &mut [u32])
+pub fn new_core(starts: &[u32], rows: &[u32], parent: &mut [u32], ancestor: &mut [u32])
     requires { ⌜ Pattern (length (now parent)) (now starts) (now rows) ⌝ }
     requires { ⌜ Ascends (length (now parent)) (now starts) (now rows) ⌝ }
     requires { ⌜ length (now ancestor) ≡ length (now parent) ⌝ }

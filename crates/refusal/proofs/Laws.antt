@@ -6,9 +6,9 @@ use native.Mathlib.Nat.{mul-mod-right, mul-comm, div-add-mod', div-eq-of-eq-mul-
 use native.Mathlib.Omega.{arith}
 use lib.Dec.{leb, eqb}
 use lib.Ieee.{Float}
-use borrow.Author.Tests.{leb-true, eqb-true, eqb-false, eq-eqb, ne-eqb, le-leb, lt-leb}
-use Rattle.refusal.specs.Refusal.{Told, tells, done, badDimension, shapesDisagree, refuses, firstOf, verdictAfter, verdict, after}
-use Rattle.refusal.specs.Check.{sizeCheck, areaCheck}
+use borrow.Author.Tests.{leb-true, eqb-true, eqb-false, eq-eqb, ne-eqb, le-leb, lt-leb, lt-ltb, le-ltb}
+use Rattle.refusal.specs.Refusal.{Told, tells, done, badDimension, shortBuffer, shapesDisagree, refuses, firstOf, verdictAfter, verdict, after}
+use Rattle.refusal.specs.Check.{sizeCheck, needCheck, areaCheck}
 use Rattle.refusal.specs.Shaped.{told, Answers}
 use Rattle.refusal.specs.declared.Shaped.{Shaped}
 use Rattle.refusal.specs.declared.Shaped.the-variants.{Accepted, Dimension, Mismatch}
@@ -39,7 +39,8 @@ passed (Mismatch place) e = cc
 
 -- ---- a list of checks, from its front
 
-stays-refused : (v : Told) (checks : List Told) → refuses v ≡ true → verdictAfter v checks ≡ v
+-- a verdict that refuses stays
+pub stays-refused : (v : Told) (checks : List Told) → refuses v ≡ true → verdictAfter v checks ≡ v
 stays-refused v [] e = refl
 stays-refused v (check ∷ checks) e = ap (λ (t : Told). verdictAfter t checks) (sym (first-refuses v check e)) ∙ stays-refused v checks e
 
@@ -55,6 +56,12 @@ verdict-goes check checks e = ap (λ (t : Told). verdictAfter t checks) e
 
 pub size-small : (least place n : ℕ) → n < least → sizeCheck least place n ≡ badDimension place
 size-small least place n h = rw (lt-leb least n h)
+
+pub need-short : (which have need : ℕ) → have < need → needCheck which have need ≡ shortBuffer which need
+need-short which have need h = rw (lt-ltb have need h)
+
+pub need-met : (which have need : ℕ) → need ≤ have → needCheck which have need ≡ done
+need-met which have need h = rw (le-ltb have need h)
 
 pub size-large : (least place n : ℕ) → least ≤ n → 16 < n → sizeCheck least place n ≡ badDimension place
 size-large least place n l h = rw (le-leb least n l, lt-leb n 16 h)

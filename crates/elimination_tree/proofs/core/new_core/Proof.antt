@@ -1,4 +1,4 @@
--- `elimination_tree::core::new` meets its contract: the tables are Liu's after j columns. Assumes nothing.
+-- `elimination_tree::core::new_core` meets its contract: the tables are Liu's after j columns. Assumes nothing.
 use Prim.Native.Nat.{ℕ, _+_, _-_, _<_}
 use mathlib.Core.Path.{sym, ap, subst, _∙_}
 use mathlib.Core.List.{map}
@@ -8,8 +8,8 @@ use lib.ListN.{length, replicate}
 use Rattle.elimination_tree.specs.Tree.{root, code, upper, Pattern, forestBy}
 use Rattle.elimination_tree.proofs.Links.{parents-by}
 use Rattle.elimination_tree.proofs.Turns.{Growing, grow-begins, grow-turns, grow-ends}
-use Rattle.elimination_tree.proofs.core.new.Statement.{statement}
-use Rattle.elimination_tree.proofs.core.new.Tie as tie
+use Rattle.elimination_tree.proofs.core.new_core.Statement.{statement}
+use Rattle.elimination_tree.proofs.core.new_core.Tie as tie
 
 abbrev Inv-loop : tie.InvT-loop
 Inv-loop starts rows parent₀ ancestor₀ n j₀ parent ancestor j = Growing starts rows n parent ancestor j
@@ -66,8 +66,8 @@ returns c =
     ∙ ap (λ (m : ℕ). map code (forestBy (upper (start .args .starts .now) (start .args .rows .now)) m m .parent)) (c .before .before .before .before .before .before .before .before .fill .kept .0)
     ∙ parents-by (start .args .starts .now) (start .args .rows .now) (length (start .args .parent .now)) (start .pre .1 .0)
 
-pub new-spec : {M : Type 1} → statement M
-new-spec =
+pub new-core-spec : {M : Type 1} → statement M
+new-core-spec =
     tie.close
     (tie.spec
     Inv-loop
