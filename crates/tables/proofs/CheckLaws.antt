@@ -12,7 +12,7 @@ use Rattle.refusal.specs.Refusal.{Told, done, refuses, verdict, tooManyBlocks, 
 use Rattle.refusal.specs.Check.{toleranceCheck}
 use Rattle.refusal.proofs.Laws.{verdict-stops, verdict-goes}
 use Rattle.tables.specs.Search.{first}
-use Rattle.tables.specs.Verdict.{faultIn, dimOk, startOk, rowFits, orderFits, permOk, lateOk, areas, blocksCheck, dimsCheck, startsCheck, storedCheck, rowsCheck, orderCheck, valuesCheck, permCheck, lateCheck}
+use Rattle.tables.specs.Verdict.{faultIn, dimOk, startOk, rowFits, orderFits, permOk, lateOk, parentOk, areas, blocksCheck, dimsCheck, startsCheck, storedCheck, rowsCheck, parentsCheck, orderCheck, valuesCheck, permCheck, lateCheck}
 
 -- ---- a list of checks, from its front
 
@@ -122,6 +122,19 @@ module _ (least : ℕ → ℕ) (starts rows : List ℕ) (n : ℕ) where
   pub rows-pass : refuses (rowsCheck least starts rows n) ≡ false → length rows ≤ first (rowFits least starts rows n) 0 (length rows)
   unfolding rowsCheck
   rows-pass h = fault-passes (rowFits least starts rows n) (length rows) outOfRange (λ k. refl) h
+
+module _ (parents : List ℕ) where
+  pub parents-stop : (k : ℕ) → k ≡ first (parentOk parents) 0 (length parents) → k < length parents → parentsCheck parents ≡ outOfRange k
+  unfolding parentsCheck
+  parents-stop k e h = fault-at (parentOk parents) (length parents) outOfRange k e h
+
+  pub parents-go : (k : ℕ) → k ≡ first (parentOk parents) 0 (length parents) → length parents ≤ k → parentsCheck parents ≡ done
+  unfolding parentsCheck
+  parents-go k e h = fault-none (parentOk parents) (length parents) outOfRange k e h
+
+  pub parents-pass : refuses (parentsCheck parents) ≡ false → length parents ≤ first (parentOk parents) 0 (length parents)
+  unfolding parentsCheck
+  parents-pass h = fault-passes (parentOk parents) (length parents) outOfRange (λ k. refl) h
 
 -- ---- 6
 

@@ -7,10 +7,10 @@ use lib.Ieee.{Float}
 use lib.ListN.{length}
 use Rattle.refusal.specs.Refusal.{refuses}
 use Rattle.refusal.proofs.Laws.{all-pass}
-use Rattle.tables.specs.Verdict.{systemChecks, systemVerdict, factorChecks, factorVerdict, upperChecks, upperVerdict, fromDiagonal, pastDiagonal, anyRow}
-use Rattle.tables.specs.Sound.{Columns, SystemSound, FactorSound, UpperSound}
-use Rattle.tables.proofs.CheckLaws.{blocks-pass, dims-pass, starts-pass, stored-pass, rows-pass, order-pass, values-pass, perm-pass, late-pass, tolerance-pass}
-use Rattle.tables.proofs.TableLaws.{sizes-of, ordered-of, columns-of, stored-half, stored-limit, permutes-of, flags-of}
+use Rattle.tables.specs.Verdict.{systemChecks, systemVerdict, factorChecks, factorVerdict, upperChecks, upperVerdict, treeChecks, treeVerdict, fromDiagonal, pastDiagonal, anyRow}
+use Rattle.tables.specs.Sound.{Columns, SystemSound, FactorSound, UpperSound, TreeSound}
+use Rattle.tables.proofs.CheckLaws.{blocks-pass, dims-pass, starts-pass, stored-pass, rows-pass, parents-pass, order-pass, values-pass, perm-pass, late-pass, tolerance-pass}
+use Rattle.tables.proofs.TableLaws.{sizes-of, ordered-of, columns-of, stored-half, stored-limit, permutes-of, flags-of, parents-of}
 
 pub system-sound : (dims starts rows : List ℕ) (values : List Float) (perm late : List ℕ) (tol : Float) → refuses (systemVerdict dims starts rows values perm late tol) ≡ false → SystemSound dims starts rows values perm late tol
 unfolding systemVerdict
@@ -51,3 +51,15 @@ upper-sound n starts rows e =
     let p = all-pass (upperChecks n starts rows) e in
     let o = ordered-of starts n (length rows) (starts-pass _ _ _ (p .1 .0)) in
     record { blocks = blocks-pass _ (p .0); columns = columns-of anyRow n starts rows o (rows-pass _ _ _ _ (p .1 .1 .0)) (order-pass _ _ _ (p .1 .1 .1 .0)) }
+
+pub tree-sound : (starts rows above : List ℕ) → refuses (treeVerdict starts rows above) ≡ false → TreeSound starts rows above
+unfolding treeVerdict
+tree-sound starts rows above e =
+    let n = length above in
+    let p = all-pass (treeChecks starts rows above) e in
+    let o = ordered-of starts n (length rows) (starts-pass _ _ _ (p .1 .0)) in
+    record {
+      blocks = blocks-pass _ (p .0);
+      columns = columns-of anyRow n starts rows o (rows-pass _ _ _ _ (p .1 .1 .0)) (order-pass _ _ _ (p .1 .1 .1 .1 .0));
+      parents = parents-of above (parents-pass _ (p .1 .1 .1 .0));
+    }

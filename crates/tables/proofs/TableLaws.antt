@@ -1,9 +1,9 @@
 -- What a search that ran to its end says of every place, table by table: its test holds there. Assumes nothing.
 use Prim.Native.Nat.{ℕ, zero, suc, _+_, _-_, _*_, _≤_, _<_, zero-le}
-use mathlib.Core.Bool.{true, _&&_, _||_, false≢true}
+use mathlib.Core.Bool.{Bool, true, false, _&&_, _||_, false≢true}
 use mathlib.Core.List.{List, [], _∷_}
-use mathlib.Core.Logic.{⊎-elim}
-use mathlib.Core.Path.{_≡_, sym, _∙_}
+use mathlib.Core.Logic.{_⊎_, inl, inr, ⊎-elim}
+use mathlib.Core.Path.{_≡_, refl, sym, _∙_}
 use native.Mathlib.Nat.{mul-suc, suc-mul, mul-le-mul, mul-le-mul-left}
 use native.Mathlib.Numerals.{add-one}
 use native.Mathlib.Omega.{arith}
@@ -16,7 +16,7 @@ use Rattle.graph.specs.Links.{rowsIn}
 use Rattle.graph.specs.Order.{Permutes}
 use Rattle.graph.proofs.SetLaws.{elem-cases}
 use Rattle.tables.specs.Search.{first}
-use Rattle.tables.specs.Verdict.{at, dimOk, risesAt, startOk, rowOk, rowFits, orderOk, orderFits, permOk, lateOk, pastDiagonal}
+use Rattle.tables.specs.Verdict.{at, dimOk, risesAt, startOk, rowOk, rowFits, orderOk, orderFits, permOk, lateOk, parentOk, pastDiagonal}
 use Rattle.tables.specs.Sound.{Sizes, Ordered, Columns}
 use Rattle.tables.proofs.Bools.{and-left, and-right}
 use Rattle.tables.proofs.SearchLaws.{lt-or-ge, first-none}
@@ -257,3 +257,13 @@ flags-of late n h = (omega (arith, long n (omega arith), no-more), λ k l. leb-t
     long : (k : ℕ) → k ≤ n → k ≤ length late
     long zero l = zero-le
     long (suc k) l = ltb-true _ _ (and-left (ltb k (length late)) _ (parts k (omega arith)))
+
+-- ---- the parents
+
+pub parents-of : (above : List ℕ) → length above ≤ first (parentOk above) 0 (length above) → (k : ℕ) → k < length above → (at above k ≡ 4294967295) ⊎ ((k < at above k) × (at above k < length above))
+unfolding parentOk
+parents-of above h k l = by-test (eqb (at above k) 4294967295) refl (first-none (parentOk above) 0 (length above) h k zero-le l)
+  where
+    by-test : (b : Bool) → eqb (at above k) 4294967295 ≡ b → (b || ltb k (at above k) && ltb (at above k) (length above)) ≡ true → (at above k ≡ 4294967295) ⊎ ((k < at above k) × (at above k < length above))
+    by-test true e t = inl (eqb-true _ _ e)
+    by-test false e t = inr (ltb-true _ _ (and-left (ltb k (at above k)) _ t), ltb-true _ _ (and-right (ltb k (at above k)) _ t))

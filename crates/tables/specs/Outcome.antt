@@ -8,6 +8,8 @@ use Rattle.tables.specs.declared.Factor.{Factor}
 use Rattle.tables.specs.declared.Factor.the-variants as factor
 use Rattle.tables.specs.declared.Upper.{Upper}
 use Rattle.tables.specs.declared.Upper.the-variants as upper
+use Rattle.tables.specs.declared.Tree.{Tree}
+use Rattle.tables.specs.declared.Tree.the-variants as tree
 use Rattle.tables.specs.declared.core.Least.{Least}
 use Rattle.tables.specs.declared.core.Least.the-variants as least
 
@@ -42,6 +44,15 @@ toldUpper upper.Blocks = tooManyBlocks
 toldUpper (upper.Starts place) = badStarts place
 toldUpper (upper.Row place) = outOfRange place
 toldUpper (upper.Order place) = notIncreasing place
+
+-- of a check of an upper pattern with parents
+abbrev pub toldTree : Tree → Told
+toldTree (tree.Accepted w) = done
+toldTree tree.Blocks = tooManyBlocks
+toldTree (tree.Starts place) = badStarts place
+toldTree (tree.Row place) = outOfRange place
+toldTree (tree.Parent place) = outOfRange place
+toldTree (tree.Order place) = notIncreasing place
 
 -- the least row of a column, by the code's name for it
 abbrev pub leastRow : Least → ℕ → ℕ

@@ -3,6 +3,7 @@
 use Prim.Native.Nat.{ℕ, _+_, _-_, _*_, _≤_, _<_}
 use mathlib.Core.Bool.{Bool, true, false}
 use mathlib.Core.List.{List}
+use mathlib.Core.Logic.{_⊎_}
 use mathlib.Core.Path.{_≡_}
 use lib.Dec.{T}
 use lib.Ieee.{Float}
@@ -85,3 +86,9 @@ pub record FactorSound (dims starts rows : List ℕ) (values : List Float) : Typ
 pub record UpperSound (n : ℕ) (starts rows : List ℕ) : Type 0 where
   pub blocks : n ≤ 4096
   pub columns : Columns anyRow n starts rows
+
+-- an upper pattern with the parents of its blocks
+pub record TreeSound (starts rows above : List ℕ) : Type 0 where
+  pub blocks : length above ≤ 4096
+  pub columns : Columns anyRow (length above) starts rows
+  pub parents : (k : ℕ) → k < length above → (at above k ≡ 4294967295) ⊎ ((k < at above k) × (at above k < length above))

@@ -76,6 +76,10 @@ permOk perm n k =
 unfoldable pub lateOk : (late : List ℕ) → (n : ℕ) → ℕ → Bool
 lateOk late n k = cond (ltb k n) (ltb k (length late) && leb (at late k) 1) (leb (length late) k)
 
+-- 5: a parent is none, which is 4,294,967,295, or a greater block
+unfoldable pub parentOk : (parents : List ℕ) → ℕ → Bool
+parentOk parents k = eqb (at parents k) 4294967295 || ltb k (at parents k) && ltb (at parents k) (length parents)
+
 -- ---- the checks: each passes, or gives its refusal with the first place
 
 -- the refusal of the first place below `end` at which a test fails
@@ -101,6 +105,10 @@ storedCheck m = cond (ltb 65536 m) tooManyStored done
 -- 5: each row from the least of its column to the last block
 unfoldable pub rowsCheck : (least : ℕ → ℕ) → (starts rows : List ℕ) → (n : ℕ) → Told
 rowsCheck least starts rows n = faultIn (rowFits least starts rows n) (length rows) outOfRange
+
+-- 5: each parent none or a greater block
+unfoldable pub parentsCheck : (parents : List ℕ) → Told
+parentsCheck parents = faultIn (parentOk parents) (length parents) outOfRange
 
 -- 6: the rows of a column strictly increasing
 unfoldable pub orderCheck : (starts rows : List ℕ) → (n : ℕ) → Told
@@ -176,3 +184,13 @@ upperChecks n starts rows = blocksCheck n ∷ startsCheck starts n (length rows)
 -- the verdict of `check_upper`
 unfoldable pub upperVerdict : (n : ℕ) → (starts rows : List ℕ) → Told
 upperVerdict n starts rows = verdict (upperChecks n starts rows)
+
+-- an upper pattern with the parents of its blocks; of 5, the rows come first
+abbrev pub treeChecks : (starts rows parents : List ℕ) → List Told
+treeChecks starts rows parents =
+    let n = length parents in
+    blocksCheck n ∷ startsCheck starts n (length rows) ∷ rowsCheck anyRow starts rows n ∷ parentsCheck parents ∷ orderCheck starts rows n ∷ []
+
+-- the verdict of `check_tree`
+unfoldable pub treeVerdict : (starts rows parents : List ℕ) → Told
+treeVerdict starts rows parents = verdict (treeChecks starts rows parents)

@@ -5,9 +5,12 @@ ghost use mathlib.Core.Path.{_≡_};
 ghost use Prim.Native.Nat.{ℕ, _+_, _≤_, _<_};
 ghost use lib.ListN.{length, take};
 ghost use Rattle.tables.specs.Search.{first, sum};
-ghost use Rattle.tables.specs.Verdict.{at, dimOk, risesAt, startOk, rowOk, rowFits, orderOk, orderFits, permOk, lateOk, blockArea, areas};
+ghost use Rattle.tables.specs.Verdict.{at, dimOk, risesAt, startOk, rowOk, rowFits, orderOk, orderFits, permOk, lateOk, parentOk, blockArea, areas};
 ghost use Rattle.tables.specs.Sound.{Sizes, Ordered, Measured, Marked};
 ghost use Rattle.tables.specs.Outcome.{leastRow};
+
+// The parent of a root.
+pub const NONE: u32 = 4_294_967_295;
 
 // What the least row of column j is: j in A, j + 1 in a factor, 0 in an upper pattern.
 pub enum Least {
@@ -290,6 +293,33 @@ pub fn first_late(late: &[u32], n: usize) -> usize
     let mut i: usize = 0;
     while i < n + 1 {
         if !late_ok(late, n, i) {
+            return i;
+        }
+        i += 1;
+    }
+    i
+}
+
+// The parent of block k is none or a greater block.
+pub fn parent_ok(parents: &[u32], k: usize) -> bool
+    requires { ⌜ k < length (now parents) ⌝ }
+    ensures { λ r. ⌜ r ≡ parentOk (now (parents .entry)) k ⌝ }
+{
+    let p = parents[k];
+    if p == NONE {
+        return true;
+    }
+    let at = wide(p);
+    k < at && at < parents.len()
+}
+
+// 5: the first block whose parent is neither none nor a greater block.
+pub fn first_parent(parents: &[u32]) -> usize
+    ensures { λ r. ⌜ r ≡ first (parentOk (now (parents .entry))) 0 (length (now (parents .entry))) ⌝ }
+{
+    let mut i: usize = 0;
+    while i < parents.len() {
+        if !parent_ok(parents, i) {
             return i;
         }
         i += 1;

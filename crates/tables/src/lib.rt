@@ -6,6 +6,7 @@ use crate::core::Least;
 use crate::core::first_dim;
 use crate::core::first_fall;
 use crate::core::first_late;
+use crate::core::first_parent;
 use crate::core::first_perm;
 use crate::core::first_row;
 use crate::core::first_start;
@@ -13,8 +14,8 @@ use crate::core::total_area;
 use refusal::Worked;
 use scalar::is_tolerance;
 ghost use mathlib.Core.Path.{_≡_};
-ghost use Rattle.tables.specs.Verdict.{systemVerdict, factorVerdict, upperVerdict};
-ghost use Rattle.tables.specs.Outcome.{toldSystem, toldFactor, toldUpper};
+ghost use Rattle.tables.specs.Verdict.{systemVerdict, factorVerdict, upperVerdict, treeVerdict};
+ghost use Rattle.tables.specs.Outcome.{toldSystem, toldFactor, toldUpper, toldTree};
 
 // The most blocks of a system, and the most blocks that A stores.
 pub const MAX_BLOCKS: usize = 4096;
@@ -183,4 +184,47 @@ pub fn check_upper(n: usize, starts: &[u32], rows: &[u32]) -> Upper
         return Upper::Order { place: k6 };
     }
     Upper::Accepted(Worked {})
+}
+
+// The outcome of a check of an upper pattern with the parents of its blocks; places as above.
+pub enum Tree {
+    Accepted(Worked),
+    // 1
+    Blocks,
+    // 3
+    Starts { place: usize },
+    // 5, in the row table
+    Row { place: usize },
+    // 5, in the parents: the block.
+    Parent { place: usize },
+    // 6
+    Order { place: usize },
+}
+
+// An upper pattern of as many blocks as there are parents, each of which is none or a greater block.
+pub fn check_tree(starts: &[u32], rows: &[u32], parents: &[u32]) -> Tree
+    ensures { λ r. ⌜ toldTree r ≡ treeVerdict (now (starts .entry)) (now (rows .entry)) (now (parents .entry)) ⌝ }
+{
+    let n = parents.len();
+    if n > MAX_BLOCKS {
+        return Tree::Blocks;
+    }
+    let m = rows.len();
+    let k3 = first_start(starts, n, m);
+    if k3 < n + 2 {
+        return Tree::Starts { place: k3 };
+    }
+    let k5 = first_row(starts, rows, n, Least::Any);
+    if k5 < m {
+        return Tree::Row { place: k5 };
+    }
+    let p5 = first_parent(parents);
+    if p5 < n {
+        return Tree::Parent { place: p5 };
+    }
+    let k6 = first_fall(starts, rows, n);
+    if k6 < m {
+        return Tree::Order { place: k6 };
+    }
+    Tree::Accepted(Worked {})
 }
