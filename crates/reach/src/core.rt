@@ -100,7 +100,7 @@ pub fn scan(
 }
 
 // The walk for block j: the next mark, j marked so that it is not listed itself, and the scan of j's rows.
-pub fn reach(
+pub fn reach_core(
     parent: &[u32],
     rows: &[u32],
     j: u32,

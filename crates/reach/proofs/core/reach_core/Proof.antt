@@ -1,4 +1,4 @@
--- `reach::core::reach` meets its contract: what `advance` and `scan` ensure, put together.
+-- `reach::core::reach_core` meets its contract: what `advance` and `scan` ensure, put together.
 -- Assumes nothing.
 use mathlib.Core.Path.{_≡_, sym, ap, _∙_}
 use mathlib.Core.List.{List, _++_}
@@ -6,8 +6,8 @@ use Prim.Native.Nat.{ℕ, _+_}
 use lib.ListN.{length, take, set, length-set}
 use Rattle.reach.specs.Reach.{State, markOf, reached, reachOf}
 use borrow.Author.Needs.{needs}
-use Rattle.reach.proofs.core.reach.Statement.{statement}
-use Rattle.reach.proofs.core.reach.Tie as tie
+use Rattle.reach.proofs.core.reach_core.Statement.{statement}
+use Rattle.reach.proofs.core.reach_core.Tie as tie
 
 advance-requires : tie.Need-advance-requires
 advance-requires c κs = search needs
@@ -50,8 +50,8 @@ returns c =
       (done .scan .ensures .1 .0 ∙ ap (λ (s : State). take (done .scan .result) (start .args .out .now) ++ s .found) same, done .scan .ensures .1 .1 ∙ ap (λ (s : State). s .stamps) same),
     )
 
-pub reach-spec : {M : Type 1} → statement M
-reach-spec =
+pub reach-core-spec : {M : Type 1} → statement M
+reach-core-spec =
     tie.close
     (tie.spec
     advance-requires
