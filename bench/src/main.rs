@@ -1,0 +1,135 @@
+//! Times the source's text and the proved library beside each other, on the same numbers, in one run.
+use nalgebra::{DMatrixView, DMatrixViewMut, DVectorView, DVectorViewMut};
+use sophus_solver::kernel::sub_mat_diag_mat_t_inplace;
+use sophus_solver::ldlt::{ldlt_decompose_inplace, ldlt_right_matsolve_inplace, ldlt_solve_inplace};
+use std::hint::black_box;
+use std::time::Instant;
+
+/// The sizes of a block.
+const SIZES: [usize; 8] = [1, 2, 3, 4, 6, 8, 12, 16];
+/// The best of so many rounds, each of so many calls, is told.
+const ROUNDS: usize = 9;
+const CALLS: usize = 20_000;
+const TOLERANCE: f64 = 1e-12;
+
+unsafe extern "C" {
+    fn beyqaloosh_sub_mat_diag_mat_t_inplace(
+        m: usize, n: usize, k: usize,
+        y: *mut f64, y_len: usize, a: *const f64, a_len: usize, d: *const f64, d_len: usize, b: *const f64, b_len: usize,
+    ) -> u32;
+    fn beyqaloosh_ldlt_decompose_inplace(n: usize, a: *mut f64, a_len: usize, d: *mut f64, d_len: usize, tol: f64) -> u32;
+    fn beyqaloosh_ldlt_right_matsolve_inplace(
+        m: usize, n: usize, l: *const f64, l_len: usize, d: *const f64, d_len: usize, x: *mut f64, x_len: usize,
+    ) -> u32;
+    fn beyqaloosh_ldlt_solve_inplace(
+        n: usize, l: *const f64, l_len: usize, d: *const f64, d_len: usize, x: *mut f64, x_len: usize,
+    ) -> u32;
+}
+
+/// Nanoseconds of one call.
+fn time(mut call: impl FnMut()) -> f64 {
+    let mut best = f64::MAX;
+    for _ in 0..ROUNDS {
+        let start = Instant::now();
+        for _ in 0..CALLS {
+            call();
+        }
+        best = best.min(start.elapsed().as_nanos() as f64 / CALLS as f64);
+    }
+    best
+}
+
+/// The two answers must be the same numbers, bit for bit.
+fn same(what: &str, n: usize, rust: &[f64], ours: &[f64]) {
+    let bits = |xs: &[f64]| xs.iter().map(|x| x.to_bits()).collect::<Vec<u64>>();
+    assert_eq!(bits(rust), bits(ours), "{what}, n = {n}: other bits");
+}
+
+fn product(n: usize, a: &[f64], v: &[f64]) -> (f64, f64) {
+    let (mut rust, mut ours) = (a.to_vec(), a.to_vec());
+    let r = time(|| {
+        rust.copy_from_slice(a);
+        sub_mat_diag_mat_t_inplace(
+            &mut DMatrixViewMut::from_slice(black_box(&mut rust), n, n),
+            DMatrixView::from_slice(black_box(a), n, n),
+            DVectorView::from_slice(v, n),
+            DMatrixView::from_slice(a, n, n),
+        );
+    });
+    let o = time(|| {
+        ours.copy_from_slice(a);
+        let (y, p) = (black_box(&mut ours).as_mut_ptr(), black_box(a).as_ptr());
+        let told = unsafe { beyqaloosh_sub_mat_diag_mat_t_inplace(n, n, n, y, n * n, p, n * n, v.as_ptr(), n, p, n * n) };
+        assert_eq!(told, 0);
+    });
+    same("product", n, &rust, &ours);
+    (r, o)
+}
+
+/// Also hands on the factor and d.
+fn decompose(n: usize, a: &[f64]) -> ((f64, f64), Vec<f64>, Vec<f64>) {
+    let (mut rust, mut ours) = ((a.to_vec(), vec![0.0; n]), (a.to_vec(), vec![0.0; n]));
+    let r = time(|| {
+        rust.0.copy_from_slice(a);
+        let (l, d) = (black_box(&mut rust.0), &mut rust.1);
+        let told = ldlt_decompose_inplace(DMatrixViewMut::from_slice(l, n, n), DVectorViewMut::from_slice(d, n), TOLERANCE);
+        assert!(told.is_ok());
+    });
+    let o = time(|| {
+        ours.0.copy_from_slice(a);
+        let (l, d) = (black_box(&mut ours.0).as_mut_ptr(), ours.1.as_mut_ptr());
+        let told = unsafe { beyqaloosh_ldlt_decompose_inplace(n, l, n * n, d, n, TOLERANCE) };
+        assert_eq!(told, 0);
+    });
+    same("factor", n, &rust.0, &ours.0);
+    same("d", n, &rust.1, &ours.1);
+    ((r, o), ours.0, ours.1)
+}
+
+fn right_solve(n: usize, a: &[f64], l: &[f64], d: &[f64]) -> (f64, f64) {
+    let (mut rust, mut ours) = (a.to_vec(), a.to_vec());
+    let r = time(|| {
+        rust.copy_from_slice(a);
+        let x = DMatrixViewMut::from_slice(black_box(&mut rust), n, n);
+        ldlt_right_matsolve_inplace(DMatrixView::from_slice(black_box(l), n, n), DVectorView::from_slice(d, n), x);
+    });
+    let o = time(|| {
+        ours.copy_from_slice(a);
+        let (x, p) = (black_box(&mut ours).as_mut_ptr(), black_box(l).as_ptr());
+        let told = unsafe { beyqaloosh_ldlt_right_matsolve_inplace(n, n, p, n * n, d.as_ptr(), n, x, n * n) };
+        assert_eq!(told, 0);
+    });
+    same("right solve", n, &rust, &ours);
+    (r, o)
+}
+
+fn solve(n: usize, v: &[f64], l: &[f64], d: &[f64]) -> (f64, f64) {
+    let (mut rust, mut ours) = (v.to_vec(), v.to_vec());
+    let r = time(|| {
+        rust.copy_from_slice(v);
+        let x = DVectorViewMut::from_slice(black_box(&mut rust), n);
+        ldlt_solve_inplace(DMatrixView::from_slice(black_box(l), n, n), DVectorView::from_slice(d, n), x);
+    });
+    let o = time(|| {
+        ours.copy_from_slice(v);
+        let (x, p) = (black_box(&mut ours).as_mut_ptr(), black_box(l).as_ptr());
+        let told = unsafe { beyqaloosh_ldlt_solve_inplace(n, p, n * n, d.as_ptr(), n, x, n) };
+        assert_eq!(told, 0);
+    });
+    same("solve", n, &rust, &ours);
+    (r, o)
+}
+
+fn main() {
+    println!("| n | product: Rust | ours | decompose: Rust | ours | right solve: Rust | ours | solve: Rust | ours |");
+    println!("|---|---|---|---|---|---|---|---|---|");
+    for n in SIZES {
+        let entry = |i: usize| if i % n == i / n { 4.0 + (i % n) as f64 } else { 0.1 / (1.0 + (i % n + i / n) as f64) };
+        let a: Vec<f64> = (0..n * n).map(entry).collect();
+        let v: Vec<f64> = (0..n).map(|i| 1.0 + i as f64 * 0.01).collect();
+        let (decomposed, l, d) = decompose(n, &a);
+        let all = [product(n, &a, &v), decomposed, right_solve(n, &a, &l, &d), solve(n, &v, &l, &d)];
+        let row: String = all.iter().map(|(r, o)| format!(" {r:.0} | {o:.0} |")).collect();
+        println!("| {n} |{row}");
+    }
+}
