@@ -1,5 +1,6 @@
 // The elimination tree of a symmetric matrix from its upper pattern: Liu's algorithm with path compression (`EliminationTree::new`).
 // Tables of u32; none is NONE. One loop to a function.
+use tables::core::NONE;
 ghost use mathlib.Core.Path.{_≡_};
 ghost use Prim.Native.Nat.{ℕ, _+_, _≤_, _<_};
 ghost use lib.Dec.{ltb};
@@ -8,8 +9,6 @@ ghost use lib.Seq.{slice};
 ghost use Rattle.graph.specs.Sets.{filter};
 ghost use Rattle.graph.specs.Liu.{Forest, walk, walks};
 ghost use Rattle.elimination_tree.specs.Tree.{asForest, Climbs, Pattern, Ascends, linkedUp, parentsOf};
-
-pub const NONE: u32 = 4_294_967_295;
 
 // The inner loop of column j, from block `start` below it: along the ancestors, each of which becomes j, up to j or to a root, which gets j as parent.
 fn climb(parent: &mut [u32], ancestor: &mut [u32], j: u32, start: u32)

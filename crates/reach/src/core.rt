@@ -1,14 +1,13 @@
 // The walk of an elimination tree where the tables are known to be good: a u32 mark advanced by a wrapping add, stamps cleared
 // where it returns to 0 or a stamp already holds it, and a climb inside the column scan that is left by a labelled break at a
 // mark or a root. What is found is written from the end of the lent buffer backwards, so it is listed last found first.
+use tables::core::NONE;
 ghost use mathlib.Core.Path.{_≡_};
 ghost use mathlib.Core.Bool.{Bool, true};
 ghost use mathlib.Core.List.{_++_};
 ghost use Prim.Native.Nat.{ℕ, _+_, _-_, _≤_, _<_};
 ghost use lib.ListN.{length, getD, take, drop, replicate};
 ghost use Rattle.reach.specs.Reach.{none, Parents, anyIs, markOf, stampsOf, reached, reachOf};
-
-pub const NONE: u32 = 4_294_967_295;
 
 // The mark that a walk used, and where in the buffer its list begins.
 pub struct Mark {

@@ -2,10 +2,9 @@
 // skipped, and a fault of each kind. A line has a block, its parent, and what a walk for it reaches, last found first.
 use elimination_tree::Grown;
 use reach::Reached;
+use tables::core::NONE;
 
 const MOST: usize = 8;
-
-const NONE: u32 = 4_294_967_295;
 
 fn main() {
     io::write_all(1, b"P1: links (1,0) (2,1) (3,0)\n");

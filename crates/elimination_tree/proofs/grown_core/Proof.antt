@@ -56,7 +56,7 @@ accepted c =
     let zeros = c .before .before .fill in
     let tree-size : length (take n parents) ≡ n = length-take-le n parents (omega arith) in
     let size : length (core .last .1 .1 .1 .0) ≡ n = core .kept .1 .1 .1 .0 ∙ length-take-le n ancestors (omega arith) in
-    grown _ n (start .args .starts .now) (start .args .rows .now) parents ancestors (core .last .1 .1 .0) (core .last .1 .1 .1 .0) (zeros .last .0) _ refl (needs-met n (length parents) (length ancestors) (omega arith) (omega arith)) size
+    grown _ n (start .args .starts .now) (start .args .rows .now) parents ancestors (core .last .1 .1 .0) (core .last .1 .1 .1 .0) (zeros .last .0) _ (start .pre .blocks) refl (needs-met n (length parents) (length ancestors) (omega arith) (omega arith)) size
     (core .ensures ∙ ap (parentsOf (linkedUp (start .args .starts .now) (start .args .rows .now))) tree-size)
     (zeros .ensures ∙ ap (λ (m : ℕ). replicate m 0) (used-prefix n (core .last .1 .1 .1 .0) ancestors size))
 
