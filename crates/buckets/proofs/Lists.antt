@@ -8,8 +8,8 @@ use native.Mathlib.Omega.{arith}
 use lib.Dec.{T, eqb, eqb→eq}
 use lib.ListN.{length, getD, set, take, drop, replicate, length-append}
 use lib.Seq.{slice, take-nil}
-use Rattle.graph.specs.Sets.{keep, filter, from}
-use Rattle.graph.proofs.SetLaws.{decide, true-of, eqb-of}
+use Rattle.graph.specs.Sets.{elem, keep, filter, from}
+use Rattle.graph.proofs.SetLaws.{decide, true-of, eqb-of, elem-head, elem-tail}
 
 -- two numbers are equal, or they are not
 pub same? : (a b : ℕ) → (a ≡ b) ⊎ (a ≡ b → ⊥)
@@ -81,3 +81,9 @@ part-slice xs zero e = let z : e - 0 ≡ e = omega arith in ap (λ (m : ℕ). ta
 part-slice [] (suc a) e = take-nil (e - suc a) ∙ ap (drop (suc a)) (sym (take-nil e))
 part-slice (x ∷ xs) (suc a) zero = let z : 0 - suc a ≡ 0 = omega arith in ap (λ (m : ℕ). take m (drop a xs)) z
 part-slice (x ∷ xs) (suc a) (suc e) = let z : suc e - suc a ≡ e - a = omega arith in ap (λ (m : ℕ). take m (drop a xs)) z ∙ part-slice xs a e
+
+-- an entry is one of the list
+pub elem-at : (l : List ℕ) (i : ℕ) → i < length l → T (elem (getD l i 0) l)
+elem-at [] i h = absurd (omega arith)
+elem-at (x ∷ l) zero h = elem-head x l
+elem-at (x ∷ l) (suc i) h = elem-tail (getD l i 0) x l (elem-at l i (omega arith))

@@ -2,3 +2,4 @@
 pub mod Walks  -- the walk over stamps is the theory's walk
 pub mod Columns  -- the passes make the theory's columns
 pub mod Passes  -- the invariants of the two passes
+pub mod Numbers  -- the sums of the counting pass

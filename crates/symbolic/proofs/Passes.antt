@@ -1,6 +1,6 @@
 -- The invariants of the counting pass and of the filling pass: how each begins, what it may ask, how it turns and ends. Assumes nothing.
-use Prim.Native.Nat.{ℕ, _+_, _<_, _≤_}
-use mathlib.Core.Path.{_≡_, sym, ap, subst, _∙_}
+use Prim.Native.Nat.{ℕ, _+_, _*_, _<_, _≤_}
+use mathlib.Core.Path.{_≡_, refl, sym, ap, ap₂, subst, _∙_}
 use mathlib.Core.List.{List, []}
 use native.Mathlib.Omega.{arith}
 use native.Mathlib.Numerals.{add-one}
@@ -17,7 +17,8 @@ use Rattle.buckets.proofs.Laws.{appends-lengths, lengths-at, scatter-few, scatt
 use Rattle.buckets.proofs.Turns.{before-small}
 use Rattle.elimination_tree.specs.Tree.{linkedUp}
 use Rattle.elimination_tree.proofs.Links.{linked-symm}
-use Rattle.symbolic.specs.Columns.{Tree, Below, found, columnsOf}
+use Rattle.symbolic.specs.Columns.{Tree, Below, Sized, found, columnsOf, area, numbersOf}
+use Rattle.symbolic.proofs.Numbers.{upTo, up-next, up-all, by-columns}
 use Rattle.symbolic.proofs.Columns.{reached-once, reached-rows, columns-made}
 
 -- no stamp is above 0 where all are 0
@@ -95,6 +96,35 @@ module _ (starts rows : List ℕ) (n : ℕ) where
 
     pub count-ends : n ≤ j → count ≡ lengths (columnsOf starts rows n)
     count-ends h = let all : j ≡ n = omega (arith, g .inside) in g .same ∙ ap (λ (m : ℕ). lengths (made m)) all ∙ ap lengths all-made
+
+  -- ---- the numbers of L, added up in the counting pass
+
+  pub record Numbering (sizes : List ℕ) (numbers j : ℕ) : Type 0 where
+    pub sum-so-far : numbers ≡ upTo (λ i. sum (found starts rows n i) (area sizes i)) j
+    pub small : numbers ≤ 1048576 * j
+
+  pub number-begins : (sizes : List ℕ) → Numbering sizes 0 0
+  number-begins sizes = record { sum-so-far = refl; small = omega arith }
+
+  module _ (sizes : List ℕ) (numbers j : ℕ) (g : Numbering sizes numbers j) where
+    module _ (part : List ℕ) (e : part ≡ found starts rows n j) where
+      -- what `row_numbers` asks
+      pub number-asks : j < n → n ≤ 4096 → Sized n sizes → length part ≤ n
+          → (Sized (length sizes) sizes × (j < length sizes) × (length part ≤ 4096)) × ((k : ℕ) → T (elem k part) → k < length sizes)
+      number-asks h few s l = (
+        (subst (λ (m : ℕ). Sized m sizes) (sym (s .count)) s, subst (λ (m : ℕ). j < m) (sym (s .count)) h, omega arith),
+        λ k m. subst (λ (x : ℕ). k < x) (sym (s .count)) (not-full j k h (subst (λ (l : List ℕ). T (elem k l)) e m) .0),
+      )
+
+      pub number-turns : (r : ℕ) → length part ≤ 4096 → r ≡ sum part (area sizes j) → r ≤ 256 * length part → Numbering sizes (numbers + r) (j + 1)
+      number-turns r l same le = record {
+        sum-so-far = ap₂ _+_ (g .sum-so-far) (same ∙ ap (λ (x : List ℕ). sum x (area sizes j)) e) ∙ sym (up-next (λ i. sum (found starts rows n i) (area sizes i)) j);
+        small = omega (arith, g .small);
+      }
+
+    pub number-ends : j ≤ n → n ≤ j → numbers ≡ numbersOf (linkedUp starts rows) n sizes
+    number-ends a b =
+        g .sum-so-far ∙ up-all (λ i. sum (found starts rows n i) (area sizes i)) n j a b ∙ by-columns (linkedUp starts rows) n symm (area sizes)
 
   -- ---- the filling pass
 
