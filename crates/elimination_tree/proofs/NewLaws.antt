@@ -12,7 +12,6 @@ use Rattle.graph.specs.Fill.{Least}
 use Rattle.graph.specs.Tree.{Parent}
 use Rattle.graph.proofs.SetLaws.{filter-inc}
 use Rattle.graph.proofs.Whole.{parent-of-least}
-use Rattle.buckets.proofs.Lists.{part-slice}
 use Rattle.refusal.specs.Refusal.{Told, done, shortBuffer, refuses, verdict, verdictAfter, after}
 use Rattle.refusal.specs.Check.{needCheck}
 use Rattle.refusal.proofs.Laws.{stays-refused, need-short, need-met}
@@ -33,7 +32,7 @@ unfolding Ascends
 as-ascends n starts rows u j below =
     let from = getD starts j 0 in
     let to = getD starts (j + 1) 0 in
-    filter-inc (λ i. ltb i j) (slice from to rows) (subst Inc (part-slice rows from to) (u .columns .increasing j below))
+    filter-inc (λ i. ltb i j) (slice from to rows) (u .columns .increasing j below)
 
 -- ---- the buffers' needs
 

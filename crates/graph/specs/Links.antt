@@ -1,14 +1,15 @@
 -- Which blocks are linked, by new number: read from A's tables and the permutation alone, never from a body. Assumes nothing.
-use Prim.Native.Nat.{ℕ, _+_, _-_, min, max}
+use Prim.Native.Nat.{ℕ, _+_, min, max}
 use mathlib.Core.Bool.{Bool, _&&_, not}
 use mathlib.Core.List.{List}
 use lib.Dec.{eqb}
-use lib.ListN.{getD, take, drop}
+use lib.ListN.{getD}
+use lib.Seq.{slice}
 use Rattle.graph.specs.Sets.{elem}
 
 -- the rows that tables of column starts and rows list in column c
 abbrev pub rowsIn : (starts rows : List ℕ) → ℕ → List ℕ
-rowsIn starts rows c = take (getD starts (c + 1) 0 - getD starts c 0) (drop (getD starts c 0) rows)
+rowsIn starts rows c = slice (getD starts c 0) (getD starts (c + 1) 0) rows
 
 -- two different new numbers are linked exactly when A stores the block of their old numbers, the greater as row;
 -- `column` gives the rows that A stores in a column, `perm` the old number of each new one

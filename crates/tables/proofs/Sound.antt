@@ -7,26 +7,42 @@ use lib.Ieee.{Float}
 use lib.ListN.{length}
 use Rattle.refusal.specs.Refusal.{refuses}
 use Rattle.refusal.proofs.Laws.{all-pass}
-use Rattle.tables.specs.Verdict.{systemChecks, systemVerdict, factorChecks, factorVerdict, upperChecks, upperVerdict, treeChecks, treeVerdict, fromDiagonal, pastDiagonal, anyRow}
-use Rattle.tables.specs.Sound.{Columns, SystemSound, FactorSound, UpperSound, TreeSound}
+use Rattle.tables.specs.Verdict.{blocksCheck, dimsCheck, startsCheck, storedCheck, rowsCheck, orderCheck, permCheck, lateCheck, systemChecks, systemVerdict, planChecks, planVerdict, factorChecks, factorVerdict, upperChecks, upperVerdict, treeChecks, treeVerdict, fromDiagonal, pastDiagonal, anyRow}
+use Rattle.tables.specs.Sound.{Columns, PlanSound, SystemSound, FactorSound, UpperSound, TreeSound}
 use Rattle.tables.proofs.CheckLaws.{blocks-pass, dims-pass, starts-pass, stored-pass, rows-pass, parents-pass, order-pass, values-pass, perm-pass, late-pass, tolerance-pass}
 use Rattle.tables.proofs.TableLaws.{sizes-of, ordered-of, columns-of, stored-half, stored-limit, permutes-of, flags-of, parents-of}
+
+-- from the checks of A's tables, the permutation and the late flags
+module _ (dims starts rows perm late : List ℕ) where
+  plan-of : refuses (blocksCheck (length dims)) ≡ false → refuses (dimsCheck dims) ≡ false → refuses (startsCheck starts (length dims) (length rows)) ≡ false → refuses (storedCheck (length rows)) ≡ false →
+      refuses (rowsCheck fromDiagonal starts rows (length dims)) ≡ false → refuses (orderCheck starts rows (length dims)) ≡ false → refuses (permCheck perm (length dims)) ≡ false → refuses (lateCheck late (length dims)) ≡ false →
+      PlanSound dims starts rows perm late
+  plan-of p1 p2 p3 p4 p5 p6 p8 p9 =
+      let o = ordered-of starts (length dims) (length rows) (starts-pass _ _ _ p3) in
+      let f = flags-of late (length dims) (late-pass _ _ p9) in
+      record {
+        blocks = blocks-pass _ p1;
+        sizes = sizes-of dims (dims-pass _ p2);
+        stored = stored-pass _ p4;
+        columns = columns-of fromDiagonal (length dims) starts rows o (rows-pass _ _ _ _ p5) (order-pass _ _ _ p6);
+        permutes = permutes-of perm (length dims) (perm-pass _ _ p8);
+        flags = f .0;
+        flagged = f .1;
+      }
+
+pub plan-sound : (dims starts rows perm late : List ℕ) → refuses (planVerdict dims starts rows perm late) ≡ false → PlanSound dims starts rows perm late
+unfolding planVerdict
+plan-sound dims starts rows perm late e =
+    let p = all-pass (planChecks dims starts rows perm late) e in
+    plan-of dims starts rows perm late (p .0) (p .1 .0) (p .1 .1 .0) (p .1 .1 .1 .0) (p .1 .1 .1 .1 .0) (p .1 .1 .1 .1 .1 .0) (p .1 .1 .1 .1 .1 .1 .0) (p .1 .1 .1 .1 .1 .1 .1 .0)
 
 pub system-sound : (dims starts rows : List ℕ) (values : List Float) (perm late : List ℕ) (tol : Float) → refuses (systemVerdict dims starts rows values perm late tol) ≡ false → SystemSound dims starts rows values perm late tol
 unfolding systemVerdict
 system-sound dims starts rows values perm late tol e =
     let p = all-pass (systemChecks dims starts rows values perm late tol) e in
-    let o = ordered-of starts (length dims) (length rows) (starts-pass _ _ _ (p .1 .1 .0)) in
-    let f = flags-of late (length dims) (late-pass _ _ (p .1 .1 .1 .1 .1 .1 .1 .1 .0)) in
     record {
-      blocks = blocks-pass _ (p .0);
-      sizes = sizes-of dims (dims-pass _ (p .1 .0));
-      stored = stored-pass _ (p .1 .1 .1 .0);
-      columns = columns-of fromDiagonal (length dims) starts rows o (rows-pass _ _ _ _ (p .1 .1 .1 .1 .0)) (order-pass _ _ _ (p .1 .1 .1 .1 .1 .0));
+      plan = plan-of dims starts rows perm late (p .0) (p .1 .0) (p .1 .1 .0) (p .1 .1 .1 .0) (p .1 .1 .1 .1 .0) (p .1 .1 .1 .1 .1 .0) (p .1 .1 .1 .1 .1 .1 .1 .0) (p .1 .1 .1 .1 .1 .1 .1 .1 .0);
       counted = values-pass _ _ _ _ (p .1 .1 .1 .1 .1 .1 .0);
-      permutes = permutes-of perm (length dims) (perm-pass _ _ (p .1 .1 .1 .1 .1 .1 .1 .0));
-      flags = f .0;
-      flagged = f .1;
       tolerance = tolerance-pass _ (p .1 .1 .1 .1 .1 .1 .1 .1 .1 .0);
     }
 

@@ -9,8 +9,8 @@ use native.Mathlib.Numerals.{add-one}
 use native.Mathlib.Omega.{arith}
 use borrow.Author.Tests.{le-leb, lt-leb, ne-eqb, lt-ltb, le-ltb, leb-true, ltb-true, eqb-true}
 use lib.Dec.{T, leb, ltb, eqb}
-use lib.ListN.{length, drop, length-drop, List·getD-eq-default}
-use lib.Seq.{length-take-le, getD-take, getD-drop}
+use lib.ListN.{length, take, List·getD-eq-default}
+use lib.Seq.{length-slice, getD-take, getD-drop}
 use Rattle.graph.specs.Sets.{elem, Inc, Uniq}
 use Rattle.graph.specs.Links.{rowsIn}
 use Rattle.graph.specs.Order.{Permutes}
@@ -134,10 +134,10 @@ module _ (least : ℕ → ℕ) (n : ℕ) (starts rows : List ℕ) (o : Ordered s
     module _ (j : ℕ) (l : j < n) where
       column-length : length (rowsIn starts rows j) ≡ at starts (j + 1) - at starts j
       column-length =
-          length-take-le _ (drop (at starts j) rows) (omega (arith, length-drop (at starts j) rows, o .inside (j + 1) (omega arith), o .rising j l))
+          length-slice (at starts j) (at starts (j + 1)) rows (o .inside (j + 1) (omega arith))
 
       column-at : (i : ℕ) → i < at starts (j + 1) - at starts j → at (rowsIn starts rows j) i ≡ at rows (at starts j + i)
-      column-at i h = getD-take _ (drop (at starts j) rows) i 0 h ∙ getD-drop (at starts j) rows i 0
+      column-at i h = getD-drop (at starts j) (take (at starts (j + 1)) rows) i 0 ∙ getD-take (at starts (j + 1)) rows (at starts j + i) 0 (omega arith)
 
       increasing : Inc (rowsIn starts rows j)
       increasing =

@@ -4,6 +4,8 @@ use Rattle.refusal.specs.Refusal.{Told, done, tooManyBlocks, badDimension, badS
 use Rattle.tables.specs.Verdict.{fromDiagonal, pastDiagonal, anyRow}
 use Rattle.tables.specs.declared.System.{System}
 use Rattle.tables.specs.declared.System.the-variants as system
+use Rattle.tables.specs.declared.PlanTables.{PlanTables}
+use Rattle.tables.specs.declared.PlanTables.the-variants as plan
 use Rattle.tables.specs.declared.Factor.{Factor}
 use Rattle.tables.specs.declared.Factor.the-variants as factor
 use Rattle.tables.specs.declared.Upper.{Upper}
@@ -26,6 +28,18 @@ toldSystem system.Values = badValueCount
 toldSystem (system.Permutation place) = badPermutation place
 toldSystem (system.Late place) = badLateFlags place
 toldSystem system.Tolerance = badTolerance
+
+-- of a check of what a plan is made from
+abbrev pub toldPlan : PlanTables → Told
+toldPlan (plan.Accepted w) = done
+toldPlan plan.Blocks = tooManyBlocks
+toldPlan (plan.Dimension place) = badDimension place
+toldPlan (plan.Starts place) = badStarts place
+toldPlan plan.Stored = tooManyStored
+toldPlan (plan.Row place) = outOfRange place
+toldPlan (plan.Order place) = notIncreasing place
+toldPlan (plan.Permutation place) = badPermutation place
+toldPlan (plan.Late place) = badLateFlags place
 
 -- of a check of a factor's tables
 abbrev pub toldFactor : Factor → Told

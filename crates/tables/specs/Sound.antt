@@ -60,16 +60,20 @@ pub record Marked (seen xs : List ℕ) : Type 0 where
 
 -- ---- all passed
 
--- A's tables with the permutation, the late flags and the tolerance
-pub record SystemSound (dims starts rows : List ℕ) (values : List Float) (perm late : List ℕ) (tol : Float) : Type 0 where
+-- what a plan is made from: A's tables without its values, the permutation and the late flags
+pub record PlanSound (dims starts rows perm late : List ℕ) : Type 0 where
   pub blocks : length dims ≤ 4096
   pub sizes : Sizes dims
   pub stored : length rows ≤ 65536
   pub columns : Columns fromDiagonal (length dims) starts rows
-  pub counted : length values ≡ areas dims starts rows
   pub permutes : Permutes (length dims) perm
   pub flags : length late ≡ length dims
   pub flagged : (k : ℕ) → k < length dims → at late k ≤ 1
+
+-- the same with A's values and the tolerance
+pub record SystemSound (dims starts rows : List ℕ) (values : List Float) (perm late : List ℕ) (tol : Float) : Type 0 where
+  pub plan : PlanSound dims starts rows perm late
+  pub counted : length values ≡ areas dims starts rows
   pub tolerance : isTolerance tol ≡ true
 
 -- a factor's tables

@@ -161,6 +161,25 @@ systemChecks dims starts rows values perm late tol =
 unfoldable pub systemVerdict : (dims starts rows : List ℕ) → (values : List Float) → (perm late : List ℕ) → (tol : Float) → Told
 systemVerdict dims starts rows values perm late tol = verdict (systemChecks dims starts rows values perm late tol)
 
+-- what a plan is made from: the same without the values and the tolerance
+abbrev pub planChecks : (dims starts rows perm late : List ℕ) → List Told
+planChecks dims starts rows perm late =
+    let n = length dims in
+    let m = length rows in
+    blocksCheck n
+    ∷ dimsCheck dims
+    ∷ startsCheck starts n m
+    ∷ storedCheck m
+    ∷ rowsCheck fromDiagonal starts rows n
+    ∷ orderCheck starts rows n
+    ∷ permCheck perm n
+    ∷ lateCheck late n
+    ∷ []
+
+-- the verdict of `check_plan`
+unfoldable pub planVerdict : (dims starts rows perm late : List ℕ) → Told
+planVerdict dims starts rows perm late = verdict (planChecks dims starts rows perm late)
+
 -- a factor's tables: 4 is not tested
 abbrev pub factorChecks : (dims starts rows : List ℕ) → (values : List Float) → List Told
 factorChecks dims starts rows values =

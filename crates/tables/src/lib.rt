@@ -14,8 +14,8 @@ use crate::core::total_area;
 use refusal::Worked;
 use scalar::is_tolerance;
 ghost use mathlib.Core.Path.{_≡_};
-ghost use Rattle.tables.specs.Verdict.{systemVerdict, factorVerdict, upperVerdict, treeVerdict};
-ghost use Rattle.tables.specs.Outcome.{toldSystem, toldFactor, toldUpper, toldTree};
+ghost use Rattle.tables.specs.Verdict.{systemVerdict, planVerdict, factorVerdict, upperVerdict, treeVerdict};
+ghost use Rattle.tables.specs.Outcome.{toldSystem, toldPlan, toldFactor, toldUpper, toldTree};
 
 // The most blocks of a system, and the most blocks that A stores.
 pub const MAX_BLOCKS: usize = 4096;
@@ -45,6 +45,27 @@ pub enum System {
     Late { place: usize },
     // 10
     Tolerance,
+}
+
+// The outcome of a check of A's tables without its values, the permutation and the late flags; places as above.
+pub enum PlanTables {
+    Accepted(Worked),
+    // 1
+    Blocks,
+    // 2
+    Dimension { place: usize },
+    // 3
+    Starts { place: usize },
+    // 4
+    Stored,
+    // 5
+    Row { place: usize },
+    // 6
+    Order { place: usize },
+    // 8
+    Permutation { place: usize },
+    // 9
+    Late { place: usize },
 }
 
 // The outcome of a check of a factor's tables; places as above.
@@ -129,6 +150,45 @@ pub fn check_system(
         return System::Tolerance;
     }
     System::Accepted(Worked {})
+}
+
+// What a plan is made from: A's tables without its values, the permutation and the late flags.
+pub fn check_plan(dims: &[u32], starts: &[u32], rows: &[u32], perm: &[u32], late: &[u32]) -> PlanTables
+    ensures { λ r. ⌜ toldPlan r ≡ planVerdict (now (dims .entry)) (now (starts .entry)) (now (rows .entry)) (now (perm .entry)) (now (late .entry)) ⌝ }
+{
+    let n = dims.len();
+    if n > MAX_BLOCKS {
+        return PlanTables::Blocks;
+    }
+    let k2 = first_dim(dims);
+    if k2 < n {
+        return PlanTables::Dimension { place: k2 };
+    }
+    let m = rows.len();
+    let k3 = first_start(starts, n, m);
+    if k3 < n + 2 {
+        return PlanTables::Starts { place: k3 };
+    }
+    if m > MAX_STORED {
+        return PlanTables::Stored;
+    }
+    let k5 = first_row(starts, rows, n, Least::Diagonal);
+    if k5 < m {
+        return PlanTables::Row { place: k5 };
+    }
+    let k6 = first_fall(starts, rows, n);
+    if k6 < m {
+        return PlanTables::Order { place: k6 };
+    }
+    let k8 = first_perm(perm, n);
+    if k8 < n + 1 {
+        return PlanTables::Permutation { place: k8 };
+    }
+    let k9 = first_late(late, n);
+    if k9 < n + 1 {
+        return PlanTables::Late { place: k9 };
+    }
+    PlanTables::Accepted(Worked {})
 }
 
 // The tables of a factor, whose column j stores rows past j.
