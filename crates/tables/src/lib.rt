@@ -153,7 +153,13 @@ pub fn check_system(
 }
 
 // What a plan is made from: A's tables without its values, the permutation and the late flags.
-pub fn check_plan(dims: &[u32], starts: &[u32], rows: &[u32], perm: &[u32], late: &[u32]) -> PlanTables
+pub fn check_plan(
+    dims: &[u32],
+    starts: &[u32],
+    rows: &[u32],
+    perm: &[u32],
+    late: &[u32],
+) -> PlanTables
     ensures { λ r. ⌜ toldPlan r ≡ planVerdict (now (dims .entry)) (now (starts .entry)) (now (rows .entry)) (now (perm .entry)) (now (late .entry)) ⌝ }
 {
     let n = dims.len();
