@@ -1,0 +1,100 @@
+// The plan where the tables have passed and each buffer but L's row table has exactly its need.
+use crate::Planned;
+ghost use mathlib.Core.Path.{_≡_};
+ghost use Prim.Native.Nat.{_+_};
+ghost use lib.ListN.{length, replicate};
+ghost use Rattle.refusal.specs.Refusal.{done};
+ghost use Rattle.tables.specs.Sound.{PlanSound};
+ghost use Rattle.plan.specs.Plan.{night, places, Plans, Exact};
+
+// Zeros in all scratch.
+fn clear(
+    inverse: &mut [u32],
+    sizes: &mut [u32],
+    count: &mut [u32],
+    heads: &mut [u32],
+    into: &mut [u32],
+    stamps: &mut [u32],
+    table: &mut [u32],
+    upper: &mut [u32],
+)
+    ensures { λ _. ⌜ now (inverse .exit) ≡ replicate (length (now (inverse .entry))) 0 ⌝ }
+    ensures { λ _. ⌜ now (sizes .exit) ≡ replicate (length (now (sizes .entry))) 0 ⌝ }
+    ensures { λ _. ⌜ now (count .exit) ≡ replicate (length (now (count .entry))) 0 ⌝ }
+    ensures { λ _. ⌜ now (heads .exit) ≡ replicate (length (now (heads .entry))) 0 ⌝ }
+    ensures { λ _. ⌜ now (into .exit) ≡ replicate (length (now (into .entry))) 0 ⌝ }
+    ensures { λ _. ⌜ now (stamps .exit) ≡ replicate (length (now (stamps .entry))) 0 ⌝ }
+    ensures { λ _. ⌜ now (table .exit) ≡ replicate (length (now (table .entry))) 0 ⌝ }
+    ensures { λ _. ⌜ now (upper .exit) ≡ replicate (length (now (upper .entry))) 0 ⌝ }
+{
+    buckets::core::fill(inverse, 0);
+    buckets::core::fill(sizes, 0);
+    buckets::core::fill(count, 0);
+    buckets::core::fill(heads, 0);
+    buckets::core::fill(into, 0);
+    buckets::core::fill(stamps, 0);
+    buckets::core::fill(table, 0);
+    buckets::core::fill(upper, 0);
+}
+
+// The tree and the counts in scratch, then the need of L's row table, then the outputs.
+pub fn planned_core(
+    dims: &[u32],
+    starts: &[u32],
+    rows: &[u32],
+    perm: &[u32],
+    late: &[u32],
+    order: &mut [u32],
+    parents: &mut [u32],
+    l_starts: &mut [u32],
+    l_rows: &mut [u32],
+    inverse: &mut [u32],
+    sizes: &mut [u32],
+    count: &mut [u32],
+    heads: &mut [u32],
+    into: &mut [u32],
+    stamps: &mut [u32],
+    table: &mut [u32],
+    upper: &mut [u32],
+) -> Planned
+    requires { ⌜ PlanSound (now dims) (now starts) (now rows) (now perm) (now late) ⌝ }
+    requires { ⌜ Exact (night (now dims) (now starts) (now rows) (now perm) (now late)) (places (now order) (now parents) (now «l_starts») (now «l_rows») (now inverse) (now sizes) (now count) (now heads) (now into) (now stamps) (now table) (now upper)) ⌝ }
+    ensures { λ r. ⌜ Plans done (night (now (dims .entry)) (now (starts .entry)) (now (rows .entry)) (now (perm .entry)) (now (late .entry))) (places (now (order .entry)) (now (parents .entry)) (now («l_starts» .entry)) (now («l_rows» .entry)) (now (inverse .entry)) (now (sizes .entry)) (now (count .entry)) (now (heads .entry)) (now (into .entry)) (now (stamps .entry)) (now (table .entry)) (now (upper .entry))) r (places (now (order .exit)) (now (parents .exit)) (now («l_starts» .exit)) (now («l_rows» .exit)) (now (inverse .exit)) (now (sizes .exit)) (now (count .exit)) (now (heads .exit)) (now (into .exit)) (now (stamps .exit)) (now (table .exit)) (now (upper .exit))) ⌝ }
+{
+    let n = dims.len();
+    let found = analysis::core::analyze(
+        dims,
+        starts,
+        rows,
+        perm,
+        late,
+        inverse,
+        sizes,
+        count,
+        heads,
+        into,
+        stamps,
+        table,
+        upper,
+    );
+    let counts = found.counts;
+    let need = counts.stored;
+    if l_rows.len() < need {
+        clear(inverse, sizes, count, heads, into, stamps, table, upper);
+        return Planned::Short { which: 3, need };
+    }
+    analysis::core::store(
+        into,
+        &upper[..found.entries],
+        &heads[..n],
+        stamps,
+        inverse,
+        count,
+        l_starts,
+        &mut l_rows[..need],
+    );
+    order::core::move_late(perm, late, order);
+    buckets::core::copy(heads, parents);
+    clear(inverse, sizes, count, heads, into, stamps, table, upper);
+    Planned::Accepted(counts)
+}
