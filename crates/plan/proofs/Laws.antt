@@ -75,8 +75,10 @@ module _ (a : Night) (count heads into upper : List ℕ) (r : Analysis) (g : Rea
   store-asks stamps inverse lStarts lRows s i l o =
       subst (λ (m : ℕ). (Tree m into part tree × (count ≡ lengths (columnsOf into part m))) × ((length stamps ≡ m) × (length inverse ≡ m) × (length lStarts ≡ m + 1)) × (length lRows ≡ storedOf (linkedUp into part) m))
       (sym tree-long) (
-        (tree-of (blocks a) (links a) into part few (g .listed) (links-symm a) tree (g .analyzed .parents),
-         g .analyzed .counted ∙ ap lengths (sym (same-columns (blocks a) (links a) into part few (g .listed) (links-symm a)))),
+        (
+          tree-of (blocks a) (links a) into part few (g .listed) (links-symm a) tree (g .analyzed .parents),
+          g .analyzed .counted ∙ ap lengths (sym (same-columns (blocks a) (links a) into part few (g .listed) (links-symm a))),
+        ),
         (s, i, l),
         o ∙ (g .analyzed .stored ∙ sym (same-stored (blocks a) (links a) into part few (g .listed) (links-symm a))),
       )

@@ -103,8 +103,8 @@ store-requires c κs =
     let x = start .pre .1 in
     let found = c .before .before .before .before .before .before .before .before .before .before .before .before .before .before .before .before .before .before .before .before .before .before .before .before .before .before .analyze in
     let asks = store-asks (the-night start) (found .last .1 .1 .1 .1 .1 .1 .1 .0) (found .last .1 .1 .1 .1 .1 .1 .1 .1 .0) (found .last .1 .1 .1 .1 .1 .1 .1 .1 .1 .0) (found .last .1 .1 .1 .1 .1 .1 .1 .1 .1 .1 .1 .1 .0) (found .result) (found .ensures) (start .pre .0 .blocks) (omega (arith, found .kept .1 .1 .1 .1 .1 .1 .1 .1 .0, x .heads))
-        (found .last .1 .1 .1 .1 .1 .1 .1 .1 .1 .1 .0) (found .last .1 .1 .1 .1 .1 .0) (start .args .l-starts .now) (take (found .result .counts .stored) (start .args .l-rows .now)) (found .kept .1 .1 .1 .1 .1 .1 .1 .1 .1 .1 .0 ∙ x .stamps) (found .kept .1 .1 .1 .1 .1 .0 ∙ x .inverse) (x .lStarts)
-        (length-take-le (found .result .counts .stored) (start .args .l-rows .now) (omega (arith, c .before .before .before .before .before .before .before .before .if1 .left))) in
+    (found .last .1 .1 .1 .1 .1 .1 .1 .1 .1 .1 .0) (found .last .1 .1 .1 .1 .1 .0) (start .args .l-starts .now) (take (found .result .counts .stored) (start .args .l-rows .now)) (found .kept .1 .1 .1 .1 .1 .1 .1 .1 .1 .1 .0 ∙ x .stamps) (found .kept .1 .1 .1 .1 .1 .0 ∙ x .inverse) (x .lStarts)
+    (length-take-le (found .result .counts .stored) (start .args .l-rows .now) (omega (arith, c .before .before .before .before .before .before .before .before .if1 .left))) in
     (asks .0, (asks .1, asks .2))
 
 move-late-requires : tie.Need-move-late-requires
