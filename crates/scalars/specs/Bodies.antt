@@ -1,6 +1,6 @@
 -- The bodies of A's stored blocks, and what becomes of each under new numbers: one that lands above the diagonal is transposed.
 -- A's values are never copied into a permuted matrix. Assumes nothing.
-use Prim.Native.Nat.{ℕ}
+use Prim.Native.Nat.{ℕ, _+_}
 use mathlib.Core.Bool.{Bool, cond}
 use mathlib.Core.List.{List, map}
 use lib.Dec.{ltb}
@@ -16,6 +16,10 @@ use Rattle.tables.specs.Verdict.{at, columnOf, areaAt}
 -- the place in A's values where the body of the stored block p begins: the areas before it
 abbrev pub offsetAt : (dims starts rows : List ℕ) → ℕ → ℕ
 offsetAt dims starts rows p = sum (areaAt dims starts rows) 0 p
+
+-- those of all stored blocks, and behind the last the number of values
+unfoldable pub offsets : (dims starts rows : List ℕ) → List ℕ
+offsets dims starts rows = map {A = ℕ} {B = ℕ} (offsetAt dims starts rows) (from 0 (length rows + 1))
 
 -- the body of the stored block p
 abbrev pub bodyAt : (dims starts rows : List ℕ) → (values : List Float) → ℕ → List Float

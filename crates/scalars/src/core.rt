@@ -2,14 +2,15 @@
 // body is copied, or transposed where it lands above the diagonal, when its column is loaded.
 use scalar::core::copy;
 use scalar::core::entry;
+use tables::core::block_area;
 ghost use mathlib.Core.Path.{_≡_};
 ghost use mathlib.Core.Bool.{Bool};
 ghost use Prim.Native.Nat.{ℕ, _+_, _*_, _≤_, _<_};
 ghost use lib.ListN.{length, getD};
 ghost use Rattle.graph.specs.Order.{Permutes};
-ghost use Rattle.tables.specs.Sound.{Sizes};
+ghost use Rattle.tables.specs.Sound.{Sizes, Measured};
 ghost use Rattle.scalars.specs.Scalars.{scalarStarts, scalarCount, scalarPerm};
-ghost use Rattle.scalars.specs.Bodies.{transposed, landed};
+ghost use Rattle.scalars.specs.Bodies.{offsets, transposed, landed};
 
 // Where the scalars of each block begin, behind the last their number, which is returned.
 pub fn make_flat_subdivision(sizes: &[u32], starts: &mut [u32]) -> u32
@@ -41,6 +42,27 @@ pub fn make_scalar_perm(dims: &[u32], order: &[u32], old_starts: &[u32], out: &m
         }
         k += 1;
     }
+}
+
+// Where the body of each stored block begins in A's values, behind the last the number of values.
+pub fn make_offsets(dims: &[u32], starts: &[u32], rows: &[u32], out: &mut [u32])
+    requires { ⌜ Measured (now dims) (now starts) (now rows) × (length (now rows) ≤ 65536) × (length (now out) ≡ length (now rows) + 1) ⌝ }
+    ensures { λ _. ⌜ now (out .exit) ≡ offsets (now (dims .entry)) (now (starts .entry)) (now (rows .entry)) ⌝ }
+{
+    let mut sum = 0;
+    let mut p = 0;
+    let mut j = 0;
+    while j < dims.len() {
+        let d = dims[j] as usize;
+        let end = starts[j + 1] as usize;
+        while p < end {
+            out[p] = sum as u32;
+            sum += block_area(dims, rows, d, p);
+            p += 1;
+        }
+        j += 1;
+    }
+    out[p] = sum as u32;
 }
 
 // The transpose of a body of height h and width w.
