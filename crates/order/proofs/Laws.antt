@@ -205,11 +205,14 @@ module _ (n : ℕ) (late perm order : List ℕ) (p : Permutes n perm) (l : lengt
 
 -- ---- the dimensions
 
+pub length-sizes : (dims order : List ℕ) → length (sizesOf dims order) ≡ length order
+unfolding sizesOf
+length-sizes dims order = length-map {A = ℕ} {B = ℕ} order (λ old. getD dims old 0)
+
 module _ (dims order₀ order : List ℕ) (k : ℕ) (s : order ≡ take k (sizesOf dims order₀) ++ drop k order₀) where
   module _ (h : k < length order₀) where
     front-length : length (take k (sizesOf dims order₀)) ≡ k
-    unfolding sizesOf
-    front-length = length-take-le k (sizesOf dims order₀) (subst (λ (m : ℕ). k ≤ m) (sym (length-map {A = ℕ} {B = ℕ} order₀ (λ old. getD dims old 0))) (omega arith))
+    front-length = let l = length-sizes dims order₀ in length-take-le k (sizesOf dims order₀) (omega arith)
 
     split : order ≡ take k (sizesOf dims order₀) ++ getD order₀ k 0 ∷ drop (suc k) order₀
     split = s ∙ ap (λ (l : List ℕ). take k (sizesOf dims order₀) ++ l) (drop-cons order₀ k 0 h)
@@ -227,11 +230,10 @@ module _ (dims order₀ order : List ℕ) (k : ℕ) (s : order ≡ take k (sizes
         ∙ set-at (take k (sizesOf dims order₀)) (getD order₀ k 0) (drop (suc k) order₀) v k front-length
         ∙ sym (append-snoc (take k (sizesOf dims order₀)) v (drop (suc k) order₀))
         ∙ ap (λ (m : ℕ). (take k (sizesOf dims order₀) ++ (m ∷ [])) ++ drop (suc k) order₀) (sym (List·getD-map {A = ℕ} {B = ℕ} (λ old. getD dims old 0) order₀ k 0))
-        ∙ ap (λ (l : List ℕ). l ++ drop (suc k) order₀) (sym (take-suc (sizesOf dims order₀) k (getD dims 0 0) (subst (λ (m : ℕ). k < m) (sym (length-map {A = ℕ} {B = ℕ} order₀ (λ old. getD dims old 0))) h)))
+        ∙ ap (λ (l : List ℕ). l ++ drop (suc k) order₀) (sym (take-suc (sizesOf dims order₀) k (getD dims 0 0) (subst (λ (m : ℕ). k < m) (sym (length-sizes dims order₀)) h)))
         ∙ ap (λ (m : ℕ). take m (sizesOf dims order₀) ++ drop m order₀) (sym (add-one k))
 
   pub sizes-end : length order₀ ≤ k → order ≡ sizesOf dims order₀
-  unfolding sizesOf
   sizes-end h =
-      let l = length-map {A = ℕ} {B = ℕ} order₀ (λ old. getD dims old 0) in
+      let l = length-sizes dims order₀ in
       s ∙ ap (λ (r : List ℕ). take k (sizesOf dims order₀) ++ r) (drop-of-length-le order₀ h) ∙ append-nil (take k (sizesOf dims order₀)) ∙ take-all k (sizesOf dims order₀) (omega arith)

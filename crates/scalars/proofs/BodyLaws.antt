@@ -74,27 +74,33 @@ module _ (dims starts rows : List ℕ) where
       let e : areaAt dims starts rows p ≡ getD (offsets dims starts rows) (p + 1) 0 - getD (offsets dims starts rows) p 0 = omega arith in
       ap (λ (m : ℕ). take m (drop (offsetAt dims starts rows p) values)) e ∙ ap (λ (m : ℕ). take (getD (offsets dims starts rows) (p + 1) 0 - getD (offsets dims starts rows) p 0) (drop m values)) (sym a)
 
-  -- ---- the loop that writes it: in column j
-  module _ (m : Measured dims starts rows) (few : length rows ≤ 65536) (j p : ℕ) (h : j < length dims) (lo : at starts j ≤ p) (hi : p < at starts (j + 1)) where
+-- ---- the loop that writes the offsets
+
+module _ {dims starts rows : List ℕ} (m : Measured dims starts rows) (few : length rows ≤ 65536) where
+  -- the sums stay small
+  pub offset-small : (p : ℕ) → p ≤ length rows → offsetAt dims starts rows p ≤ 16777216
+  offset-small p h =
+      let s = sum-split (areaAt dims starts rows) 0 p (length rows) (omega arith) h in
+      let a = areas-le dims rows (m .sizes) starts in
+      omega arith
+
+  -- in column j
+  module _ (j p : ℕ) (h : j < length dims) (lo : at starts j ≤ p) (hi : p < at starts (j + 1)) where
     pub place-below : p < length rows
     place-below = let i = m .ordered .inside (j + 1) (omega arith) in omega arith
 
     area-is : blockArea dims rows (at dims j) p ≡ areaAt dims starts rows p
     area-is = ap (λ (c : ℕ). blockArea dims rows (at dims c) p) (sym (column-is (m .ordered) j p h lo hi))
 
-    module _ (out : List ℕ) (sum : ℕ) (f : Filled (offsets dims starts rows) out p) (s : sum ≡ offsetAt dims starts rows p) where
+    module _ {out : List ℕ} (sum : ℕ) (f : Filled (offsets dims starts rows) out p) (s : sum ≡ offsetAt dims starts rows p) where
       pub offset-turn : Filled (offsets dims starts rows) (set out p sum) (p + 1)
-      offset-turn = let l = length-offsets in let b = place-below in filled-more (offsets dims starts rows) out p f 0 sum (omega arith) (offsets-at p (omega arith) ∙ sym s)
+      offset-turn =
+          let l = length-offsets dims starts rows in
+          let b = place-below in
+          filled-more (offsets dims starts rows) out p f 0 sum (omega arith) (offsets-at dims starts rows p (omega arith) ∙ sym s)
 
       pub offset-sum : (area : ℕ) → area ≡ blockArea dims rows (at dims j) p → sum + area ≡ offsetAt dims starts rows (p + 1)
-      offset-sum area e = let n = offset-next p in let a = e ∙ area-is in omega arith
-
-  -- the sums stay small
-  pub offset-small : Measured dims starts rows → length rows ≤ 65536 → (p : ℕ) → p ≤ length rows → offsetAt dims starts rows p ≤ 16777216
-  offset-small m few p h =
-      let s = sum-split (areaAt dims starts rows) 0 p (length rows) (omega arith) h in
-      let a = areas-le dims rows (m .sizes) starts in
-      omega arith
+      offset-sum area e = let n = offset-next dims starts rows p in let a = e ∙ area-is in omega arith
 
 -- ---- the transpose
 

@@ -2,3 +2,4 @@
 pub mod Filling  -- a loop that writes a list from its first place on
 pub mod ScalarLaws  -- the scalar permutation is one; its entries
 pub mod BodyLaws  -- bodies lie one behind the other; the transpose by its entries
+pub mod PlaceLaws  -- where a block is stored, and its body, by new numbers

@@ -22,7 +22,7 @@ use Rattle.buckets.specs.Buckets.{before}
 use Rattle.buckets.proofs.Lists.{getD-any}
 use Rattle.buckets.proofs.Turns.{before-next, before-small}
 use Rattle.order.specs.Order.{sizesOf}
-use Rattle.order.proofs.Laws.{length-from, getD-from, uniq-within, has-all, below-at}
+use Rattle.order.proofs.Laws.{length-from, getD-from, uniq-within, has-all, below-at, length-sizes}
 use Rattle.tables.specs.Sound.{Sizes}
 use Rattle.scalars.specs.Scalars.{scalarCount, scalarStarts, scalarsOf, scalarPerm}
 use Rattle.scalars.proofs.Filling.{Filled, filled-more}
@@ -183,8 +183,12 @@ pub sizes-at : (dims order : List ℕ) (k : ℕ) → k < length order → getD (
 unfolding sizesOf
 sizes-at dims order k h =
     let f : ℕ → ℕ = λ old. getD dims old 0 in
-    let l = length-map {A = ℕ} {B = ℕ} order f in
+    let l = length-sizes dims order in
     getD-any (map {A = ℕ} {B = ℕ} f order) k 0 (f 0) (omega arith) ∙ List·getD-map {A = ℕ} {B = ℕ} f order k 0
+
+-- the new sizes are small too
+pub sizes-small : (dims order : List ℕ) → Sizes dims → (k : ℕ) → k < length (sizesOf dims order) → getD (sizesOf dims order) k 0 ≤ 16
+sizes-small dims order s k h = subst (λ (m : ℕ). m ≤ 16) (sym (sizes-at dims order k (omega (arith, length-sizes dims order)))) (s .small (getD order k 0))
 
 module _ (dims order olds : List ℕ) (p : Permutes (length dims) order) (e : olds ≡ scalarStarts dims) (k : ℕ) (h : k < length order) where
   -- the old block that comes next, and where its scalars begin

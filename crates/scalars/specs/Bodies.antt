@@ -1,14 +1,14 @@
 -- The bodies of A's stored blocks, and what becomes of each under new numbers: one that lands above the diagonal is transposed.
 -- A's values are never copied into a permuted matrix. Assumes nothing.
 use Prim.Native.Nat.{ℕ, _+_}
-use mathlib.Core.Bool.{Bool, cond}
+use mathlib.Core.Bool.{Bool, cond, not}
 use mathlib.Core.List.{List, map}
-use lib.Dec.{ltb}
+use lib.Dec.{ltb, eqb}
 use lib.Ieee.{Float}
 use lib.ListN.{length, take, drop}
 use Rattle.graph.specs.Sets.{from, gather}
 use Rattle.scalar.specs.Block as block
-use Rattle.tables.specs.Search.{sum}
+use Rattle.tables.specs.Search.{first, sum}
 use Rattle.tables.specs.Verdict.{at, columnOf, areaAt}
 
 -- ---- where they lie
@@ -24,6 +24,10 @@ offsets dims starts rows = map {A = ℕ} {B = ℕ} (offsetAt dims starts rows) (
 -- the body of the stored block p
 abbrev pub bodyAt : (dims starts rows : List ℕ) → (values : List Float) → ℕ → List Float
 bodyAt dims starts rows values p = take (areaAt dims starts rows p) (drop (offsetAt dims starts rows p) values)
+
+-- the place of the block (row, column), by old numbers: the first of its column that holds the row
+unfoldable pub placeOf : (starts rows : List ℕ) → (row column : ℕ) → ℕ
+placeOf starts rows row column = first (λ p. not (eqb (at rows p) row)) (at starts column) (at starts (column + 1))
 
 -- ---- under new numbers
 

@@ -1,5 +1,5 @@
 -- `scalars::core::make_offsets` meets its contract. Assumes nothing.
-use Prim.Native.Nat.{_+_, _-_, _≤_}
+use Prim.Native.Nat.{_+_, _-_, _≤_, _<_}
 use mathlib.Core.Path.{_≡_, sym, ap, _∙_}
 use native.Mathlib.Omega.{arith}
 use borrow.Author.Needs.{needs}
@@ -30,13 +30,20 @@ turn c = c .before .before .before .before
 abbrev start : tie.In-loop Inv-loop2 μ-loop2 Inv-loop μ-loop → tie.Start Inv-loop2 μ-loop2 Inv-loop μ-loop
 start c = c .before .before .before .before .before .before
 
+-- the place of a block that comes next
+below : (c : tie.In-loop2 Inv-loop2 μ-loop2 Inv-loop μ-loop) → c .before .loop2 .p < length (start (turn c) .args .rows .now)
+below c =
+    let t = c .before .loop2 in
+    let s = start (turn c) in
+    place-below (s .pre .0) (s .pre .1) (turn c .before .loop .j) (t .p) (turn c .loop-test .taken) (t .inv .0) (c .loop2-test .taken)
+
 -- the sum after a block
 summed : (c : tie.After-block-area Inv-loop2 μ-loop2 Inv-loop μ-loop) → let t = c .before .before .loop2 in let s = start (turn (c .before)) in t .sum + c .block-area .result ≡ offsetAt (s .args .dims .now) (s .args .starts .now) (s .args .rows .now) (t .p + 1)
 summed c =
     let k = c .before in
     let t = k .before .loop2 in
     let s = start (turn k) in
-    offset-sum (s .args .dims .now) (s .args .starts .now) (s .args .rows .now) (s .pre .0) (s .pre .1) (turn k .before .loop .j) (t .p) (turn k .loop-test .taken) (t .inv .0) (k .loop2-test .taken) (t .out) (t .sum) (t .inv .2) (t .inv .3) (c .block-area .result) (c .block-area .ensures)
+    offset-sum (s .pre .0) (s .pre .1) (turn k .before .loop .j) (t .p) (turn k .loop-test .taken) (t .inv .0) (k .loop2-test .taken) (t .sum) (t .inv .2) (t .inv .3) (c .block-area .result) (c .block-area .ensures)
 
 -- at the end all places are done
 ended : (c : tie.After-loop Inv-loop2 μ-loop2 Inv-loop μ-loop) → c .before .loop .p ≡ length (c .before .before .before .before .before .before .args .rows .now)
@@ -74,15 +81,14 @@ cast-out : tie.Need-cast-out Inv-loop2 μ-loop2 Inv-loop μ-loop
 cast-out c =
     let t = c .before .loop2 in
     let s = start (turn c) in
-    let below = place-below (s .args .dims .now) (s .args .starts .now) (s .args .rows .now) (s .pre .0) (s .pre .1) (turn c .before .loop .j) (t .p) (turn c .loop-test .taken) (t .inv .0) (c .loop2-test .taken) in
-    omega (arith, t .inv .3, offset-small (s .args .dims .now) (s .args .starts .now) (s .args .rows .now) (s .pre .0) (s .pre .1) (t .p) (omega arith))
+    let b = below c in
+    omega (arith, t .inv .3, offset-small (s .pre .0) (s .pre .1) (t .p) (omega arith))
 
 slice-write-out : tie.Need-slice-write-out Inv-loop2 μ-loop2 Inv-loop μ-loop
 slice-write-out c =
     let t = c .before .loop2 in
     let s = start (turn c) in
-    let below = place-below (s .args .dims .now) (s .args .starts .now) (s .args .rows .now) (s .pre .0) (s .pre .1) (turn c .before .loop .j) (t .p) (turn c .loop-test .taken) (t .inv .0) (c .loop2-test .taken) in
-    omega (arith, below, length-offsets (s .args .dims .now) (s .args .starts .now) (s .args .rows .now), t .inv .2 .long)
+    omega (arith, below c, length-offsets (s .args .dims .now) (s .args .starts .now) (s .args .rows .now), t .inv .2 .long)
 
 mul-out : tie.Need-mul-out Inv-loop2 μ-loop2 Inv-loop μ-loop
 mul-out c =
@@ -91,25 +97,21 @@ mul-out c =
 
 block-area-requires : tie.Need-block-area-requires Inv-loop2 μ-loop2 Inv-loop μ-loop
 block-area-requires c κs =
-    let t = c .before .loop2 in
     let s = start (turn c) in
-    let below = place-below (s .args .dims .now) (s .args .starts .now) (s .args .rows .now) (s .pre .0) (s .pre .1) (turn c .before .loop .j) (t .p) (turn c .loop-test .taken) (t .inv .0) (c .loop2-test .taken) in
-    (s .pre .0 .sizes, s .pre .0 .sizes .small (turn c .before .loop .j), below, s .pre .0 .below (t .p) below)
+    let b = below c in
+    (s .pre .0 .sizes, s .pre .0 .sizes .small (turn c .before .loop .j), b, s .pre .0 .below (c .before .loop2 .p) b)
 
 add-sum : tie.Need-add-sum Inv-loop2 μ-loop2 Inv-loop μ-loop
 add-sum c =
     let k = c .before in
     let t = k .before .loop2 in
     let s = start (turn k) in
-    let below = place-below (s .args .dims .now) (s .args .starts .now) (s .args .rows .now) (s .pre .0) (s .pre .1) (turn k .before .loop .j) (t .p) (turn k .loop-test .taken) (t .inv .0) (k .loop2-test .taken) in
-    omega (arith, summed c, offset-small (s .args .dims .now) (s .args .starts .now) (s .args .rows .now) (s .pre .0) (s .pre .1) (t .p + 1) (omega arith))
+    let b = below k in
+    omega (arith, summed c, offset-small (s .pre .0) (s .pre .1) (t .p + 1) (omega arith))
 
 add-p : tie.Need-add-p Inv-loop2 μ-loop2 Inv-loop μ-loop
 add-p c =
-    let k = c .before in
-    let t = k .before .loop2 in
-    let s = start (turn k) in
-    omega (arith, place-below (s .args .dims .now) (s .args .starts .now) (s .args .rows .now) (s .pre .0) (s .pre .1) (turn k .before .loop .j) (t .p) (turn k .loop-test .taken) (t .inv .0) (k .loop2-test .taken), s .pre .1)
+    omega (arith, below (c .before), start (turn (c .before)) .pre .1)
 
 loop2-again : tie.Need-loop2-again Inv-loop2 μ-loop2 Inv-loop μ-loop
 loop2-again c =
@@ -118,7 +120,7 @@ loop2-again c =
     let s = start (turn k) in (
       omega (arith, t .inv .0),
       search needs,
-      offset-turn (s .args .dims .now) (s .args .starts .now) (s .args .rows .now) (s .pre .0) (s .pre .1) (turn k .before .loop .j) (t .p) (turn k .loop-test .taken) (t .inv .0) (k .loop2-test .taken) (t .out) (t .sum) (t .inv .2) (t .inv .3),
+      offset-turn (s .pre .0) (s .pre .1) (turn k .before .loop .j) (t .p) (turn k .loop-test .taken) (t .inv .0) (k .loop2-test .taken) (t .sum) (t .inv .2) (t .inv .3),
       summed c,
     )
 
@@ -131,7 +133,7 @@ cast-out-2 : tie.Need-cast-out-2 Inv-loop2 μ-loop2 Inv-loop μ-loop
 cast-out-2 c =
     let v = c .before .loop in
     let s = c .before .before .before .before .before .before in
-    omega (arith, v .inv .3, offset-small (s .args .dims .now) (s .args .starts .now) (s .args .rows .now) (s .pre .0) (s .pre .1) (v .p) (omega (arith, ended c)))
+    omega (arith, v .inv .3, offset-small (s .pre .0) (s .pre .1) (v .p) (omega (arith, ended c)))
 
 slice-write-out-2 : tie.Need-slice-write-out-2 Inv-loop2 μ-loop2 Inv-loop μ-loop
 slice-write-out-2 c =
