@@ -60,20 +60,20 @@ filter-uniq p (x ∷ l) u = by-test (p x) (filter-uniq p l (u .1))
 
 -- ---- two lists joined
 
-elem-append : (x : ℕ) (l m : List ℕ) → T (elem x (l ++ m)) → T (elem x l) ⊎ T (elem x m)
+pub elem-append : (x : ℕ) (l m : List ℕ) → T (elem x (l ++ m)) → T (elem x l) ⊎ T (elem x m)
 elem-append x [] m t = inr t
 elem-append x (y ∷ l) m t =
     ⊎-elim (λ e. inl (or-left (eqb x y) (elem x l) (eqb-of e))) (λ s. ⊎-elim (λ a. inl (elem-tail x y l a)) (λ b. inr b) (elem-append x l m s)) (elem-cases x y (l ++ m) t)
 
-elem-left : (x : ℕ) (l m : List ℕ) → T (elem x l) → T (elem x (l ++ m))
+pub elem-left : (x : ℕ) (l m : List ℕ) → T (elem x l) → T (elem x (l ++ m))
 elem-left x [] m t = absurd t
 elem-left x (y ∷ l) m t = ⊎-elim (λ e. or-left (eqb x y) (elem x (l ++ m)) (eqb-of e)) (λ s. elem-tail x y (l ++ m) (elem-left x l m s)) (elem-cases x y l t)
 
-elem-right : (x : ℕ) (l m : List ℕ) → T (elem x m) → T (elem x (l ++ m))
+pub elem-right : (x : ℕ) (l m : List ℕ) → T (elem x m) → T (elem x (l ++ m))
 elem-right x [] m t = t
 elem-right x (y ∷ l) m t = elem-tail x y (l ++ m) (elem-right x l m t)
 
-append-uniq : (l m : List ℕ) → Uniq l → Uniq m → ((x : ℕ) → T (elem x l) → T (elem x m) → ⊥) → Uniq (l ++ m)
+pub append-uniq : (l m : List ℕ) → Uniq l → Uniq m → ((x : ℕ) → T (elem x l) → T (elem x m) → ⊥) → Uniq (l ++ m)
 append-uniq [] m u v apart = v
 append-uniq (x ∷ l) m u v apart =
     (λ t. ⊎-elim (u .0) (λ s. apart x (elem-head x l) s) (elem-append x l m t), append-uniq l m (u .1) v (λ y s r. apart y (elem-tail y x l s) r))

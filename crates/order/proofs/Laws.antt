@@ -9,9 +9,9 @@ use native.Mathlib.Numerals.{add-one}
 use lib.Dec.{T, eqb, eqb→eq}
 use lib.ListN.{length, getD, set, take, drop, length-set, length-append, length-map, drop-of-length-le, List·getD-map}
 use lib.Seq.{sets, sets-eq, length-sets, drop-cons, take-suc, take-all, take-at, getD-at, length-take-le, append-snoc, getD-set-same, getD-set-other, set-at}
-use Rattle.graph.specs.Sets.{elem, keep, filter, Uniq}
+use Rattle.graph.specs.Sets.{elem, keep, filter, from, Uniq}
 use Rattle.graph.specs.Order.{isLate, moved, Permutes}
-use Rattle.graph.proofs.SetLaws.{decide, eqb-of, elem-head, elem-tail, elem-cases, filter-elim, is-true}
+use Rattle.graph.proofs.SetLaws.{decide, eqb-of, elem-head, elem-tail, elem-cases, filter-intro, from-intro, is-true, is-false}
 use Rattle.graph.proofs.OrderLaws.{moved-permutes}
 use Rattle.order.specs.Order.{inGroup, group, Inverse, sizesOf}
 
@@ -35,56 +35,60 @@ once-at (x ∷ l) u zero (suc k) h g e = absurd (u .0 (subst (λ (y : ℕ). T (e
 once-at (x ∷ l) u (suc i) zero h g e = absurd (u .0 (subst (λ (y : ℕ). T (elem y l)) e (elem-at l i (omega arith))))
 once-at (x ∷ l) u (suc i) (suc k) h g e = ap suc (once-at l (u .1) i k (omega arith) (omega arith) e)
 
+pub length-from : (a c : ℕ) → length (from a c) ≡ c
+length-from a zero = refl
+length-from a (suc c) = ap suc (length-from (suc a) c)
+
+pub getD-from : (a c i : ℕ) → i < c → getD (from a c) i 0 ≡ a + i
+getD-from a zero i h = absurd (omega arith)
+getD-from a (suc c) zero h = omega arith
+getD-from a (suc c) (suc i) h = getD-from (suc a) c i (omega arith) ∙ omega arith
+
+-- no more pass a test than there are
+filter-few : (p : ℕ → Bool) (l : List ℕ) → length (filter p l) ≤ length l
+filter-few p [] = omega arith
+filter-few p (x ∷ l) = go (p x) (filter-few p l)
+  where
+    go : (b : Bool) → length (filter p l) ≤ length l → length (keep b x (filter p l)) ≤ suc (length l)
+    go true h = omega arith
+    go false h = omega arith
+
 -- ---- n numbers below n, none twice, are all of them
 
 abbrev without : ℕ → List ℕ → List ℕ
 without x l = filter (λ y. not (eqb y x)) l
 
-without-other : (x y : ℕ) (l : List ℕ) → T (elem y (without x l)) → T (elem y l) × (y ≡ x → ⊥)
-without-other x y l t = let r = filter-elim (λ z. not (eqb z x)) y l t in (r .0, λ e. never (eqb y x) (r .1) (eqb-of e))
+unlike : (x y : ℕ) → (y ≡ x → ⊥) → T (not (eqb y x))
+unlike x y n = go (eqb y x) refl
   where
-    never : (b : Bool) → T (not b) → T b → ⊥
-    never true s t = s
-    never false s t = t
+    go : (b : Bool) → eqb y x ≡ b → T (not b)
+    go true e = n (eqb→eq y x (is-true e))
+    go false e = tt
 
-without-uniq : (x : ℕ) (l : List ℕ) → Uniq l → Uniq (without x l)
-without-uniq x [] u = tt
-without-uniq x (y ∷ l) u = by-test (not (eqb y x)) (without-uniq x l (u .1))
+-- an element that is left out leaves fewer
+without-fewer : (x : ℕ) (l : List ℕ) → T (elem x l) → length (without x l) < length l
+without-fewer x [] t = absurd t
+without-fewer x (y ∷ l) t = go (eqb y x) refl (⊎-elim (λ e n. absurd (n e)) (λ s n. without-fewer x l s) (elem-cases x y l t))
   where
-    by-test : (b : Bool) → Uniq (without x l) → Uniq (keep b y (without x l))
-    by-test true ih = (λ t. u .0 (without-other x y l t .0), ih)
-    by-test false ih = ih
+    go : (b : Bool) → eqb y x ≡ b → ((x ≡ y → ⊥) → length (without x l) < length l) → length (keep (not b) y (without x l)) < suc (length l)
+    go true e rest = let h = filter-few (λ y. not (eqb y x)) l in omega arith
+    go false e rest = let h = rest (λ q. is-false e (eqb-of (sym q))) in omega arith
 
-without-none : (x : ℕ) (l : List ℕ) → (T (elem x l) → ⊥) → length (without x l) ≡ length l
-without-none x [] n = refl
-without-none x (y ∷ l) n = by-test (eqb y x) refl (without-none x l (λ t. n (elem-tail x y l t)))
-  where
-    by-test : (b : Bool) → eqb y x ≡ b → length (without x l) ≡ length l → length (keep (not b) y (without x l)) ≡ suc (length l)
-    by-test true e ih = absurd (n (subst (λ (z : ℕ). T (elem x (z ∷ l))) (sym (eqb→eq y x (is-true e))) (elem-head x l)))
-    by-test false e ih = ap suc ih
-
--- leaving a number out leaves out one at most
-without-length : (x : ℕ) (l : List ℕ) → Uniq l → length l ≤ suc (length (without x l))
-without-length x [] u = omega arith
-without-length x (y ∷ l) u = by-test (eqb y x) refl (without-length x l (u .1))
-  where
-    by-test : (b : Bool) → eqb y x ≡ b → length l ≤ suc (length (without x l)) → suc (length l) ≤ suc (length (keep (not b) y (without x l)))
-    by-test true e ih = let z = without-none x l (λ s. u .0 (subst (λ (z : ℕ). T (elem z l)) (sym (eqb→eq y x (is-true e))) s)) in omega arith
-    by-test false e ih = omega arith
-
-few : (n : ℕ) (l : List ℕ) → Uniq l → ((x : ℕ) → T (elem x l) → x < n) → length l ≤ n
-few zero [] u b = omega arith
-few zero (x ∷ l) u b = let h = b x (elem-head x l) in absurd (omega arith)
-few (suc n) l u b =
-    let r = few n (without n l) (without-uniq n l u) (λ x t. let o = without-other n x l t in let h = b x (o .0) in let ne : (x ≡ n → ⊥) = o .1 in omega arith) in
-    let s = without-length n l u in
+-- a list with no element twice is no longer than one that has all of them
+pub uniq-within : (l m : List ℕ) → Uniq l → ((x : ℕ) → T (elem x l) → T (elem x m)) → length l ≤ length m
+uniq-within [] m u h = omega arith
+uniq-within (x ∷ l) m u h =
+    let fewer = without-fewer x m (h x (elem-head x l)) in
+    let r = uniq-within l (without x m) (u .1) (λ y t. filter-intro (λ y. not (eqb y x)) y m (h y (elem-tail y x l t)) (unlike x y (λ e. u .0 (subst (λ (z : ℕ). T (elem z l)) e t)))) in
     omega arith
 
 module _ (n : ℕ) (perm : List ℕ) (p : Permutes n perm) where
   -- every block is in a permutation
   pub has-all : (o : ℕ) → o < n → T (elem o perm)
   has-all o h = ⊎-elim (λ t. t)
-      (λ no. let r = few n (o ∷ perm) (no, p .once) (λ x t. ⊎-elim (λ e. subst (λ (y : ℕ). y < n) (sym e) h) (p .below x) (elem-cases x o perm t)) in absurd (omega (arith, p .entries)))
+      (λ no.
+      let r = uniq-within (o ∷ perm) (from 0 n) (no, p .once) (λ x t. let b : x < n = ⊎-elim (λ e. subst (λ (y : ℕ). y < n) (sym e) h) (p .below x) (elem-cases x o perm t) in from-intro x 0 n (omega arith) (omega arith)) in
+      absurd (omega (arith, p .entries, length-from 0 n)))
       (decide (elem o perm))
 
   pub below-at : (k : ℕ) → k < n → getD perm k 0 < n
@@ -201,11 +205,14 @@ module _ (n : ℕ) (late perm order : List ℕ) (p : Permutes n perm) (l : lengt
 
 -- ---- the dimensions
 
+pub length-sizes : (dims order : List ℕ) → length (sizesOf dims order) ≡ length order
+unfolding sizesOf
+length-sizes dims order = length-map {A = ℕ} {B = ℕ} order (λ old. getD dims old 0)
+
 module _ (dims order₀ order : List ℕ) (k : ℕ) (s : order ≡ take k (sizesOf dims order₀) ++ drop k order₀) where
   module _ (h : k < length order₀) where
     front-length : length (take k (sizesOf dims order₀)) ≡ k
-    unfolding sizesOf
-    front-length = length-take-le k (sizesOf dims order₀) (subst (λ (m : ℕ). k ≤ m) (sym (length-map {A = ℕ} {B = ℕ} order₀ (λ old. getD dims old 0))) (omega arith))
+    front-length = let l = length-sizes dims order₀ in length-take-le k (sizesOf dims order₀) (omega arith)
 
     split : order ≡ take k (sizesOf dims order₀) ++ getD order₀ k 0 ∷ drop (suc k) order₀
     split = s ∙ ap (λ (l : List ℕ). take k (sizesOf dims order₀) ++ l) (drop-cons order₀ k 0 h)
@@ -223,11 +230,10 @@ module _ (dims order₀ order : List ℕ) (k : ℕ) (s : order ≡ take k (sizes
         ∙ set-at (take k (sizesOf dims order₀)) (getD order₀ k 0) (drop (suc k) order₀) v k front-length
         ∙ sym (append-snoc (take k (sizesOf dims order₀)) v (drop (suc k) order₀))
         ∙ ap (λ (m : ℕ). (take k (sizesOf dims order₀) ++ (m ∷ [])) ++ drop (suc k) order₀) (sym (List·getD-map {A = ℕ} {B = ℕ} (λ old. getD dims old 0) order₀ k 0))
-        ∙ ap (λ (l : List ℕ). l ++ drop (suc k) order₀) (sym (take-suc (sizesOf dims order₀) k (getD dims 0 0) (subst (λ (m : ℕ). k < m) (sym (length-map {A = ℕ} {B = ℕ} order₀ (λ old. getD dims old 0))) h)))
+        ∙ ap (λ (l : List ℕ). l ++ drop (suc k) order₀) (sym (take-suc (sizesOf dims order₀) k (getD dims 0 0) (subst (λ (m : ℕ). k < m) (sym (length-sizes dims order₀)) h)))
         ∙ ap (λ (m : ℕ). take m (sizesOf dims order₀) ++ drop m order₀) (sym (add-one k))
 
   pub sizes-end : length order₀ ≤ k → order ≡ sizesOf dims order₀
-  unfolding sizesOf
   sizes-end h =
-      let l = length-map {A = ℕ} {B = ℕ} order₀ (λ old. getD dims old 0) in
+      let l = length-sizes dims order₀ in
       s ∙ ap (λ (r : List ℕ). take k (sizesOf dims order₀) ++ r) (drop-of-length-le order₀ h) ∙ append-nil (take k (sizesOf dims order₀)) ∙ take-all k (sizesOf dims order₀) (omega arith)
