@@ -5,7 +5,8 @@ use mathlib.Core.List.{List, [], _∷_}
 use lib.Ieee.{Float}
 use Rattle.refusal.specs.Refusal.{Told, verdict}
 use Rattle.refusal.specs.Check.{sizeCheck, areaCheck}
-use Rattle.kernel_lower.specs.Lower.{lowerSolve, lowerMatsolve, lowerTransposeSolve, lowerTransposeMatsolve}
+use Rattle.kernel_lower.specs.Lower.{lowerSolve, lowerMatsolve}
+use Rattle.kernel_lower_transpose.specs.Transpose.{lowerTransposeSolve, lowerTransposeMatsolve}
 use Rattle.kernel_right.specs.Right.{lowerRightSolve, lowerTransposeRightsolve}
 use Rattle.kernel_diag.specs.Diag.{diagSolve, diagMatsolve, diagRightMatsolve}
 

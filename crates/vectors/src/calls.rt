@@ -64,8 +64,8 @@ fn from_left(op: usize, p: usize, q: usize, a: &[f64], b: &mut [f64]) -> Shaped 
     match op {
         1 => kernel_lower::lower_solve_inplace(p, a, b),
         2 => kernel_lower::lower_matsolve_inplace(p, q, a, b),
-        3 => kernel_lower::lower_transpose_solve_inplace(p, a, b),
-        4 => kernel_lower::lower_transpose_matsolve_inplace(p, q, a, b),
+        3 => kernel_lower_transpose::lower_transpose_solve_inplace(p, a, b),
+        4 => kernel_lower_transpose::lower_transpose_matsolve_inplace(p, q, a, b),
         5 => kernel_diag::diag_solve_inplaced(p, a, b),
         _ => kernel_diag::diag_matsolve_inplaced(p, q, a, b),
     }

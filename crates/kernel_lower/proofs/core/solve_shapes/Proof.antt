@@ -1,8 +1,8 @@
--- `kernel_lower::solve_shapes` meets its contract: one check after the other. Assumes nothing.
+-- `kernel_lower::core::solve_shapes` meets its contract: one check after the other. Assumes nothing.
 use borrow.Author.Needs.{needs}
 use Rattle.kernel_lower.specs.Lower.{solveVerdict}
-use Rattle.kernel_lower.proofs.solve_shapes.Statement.{statement}
-use Rattle.kernel_lower.proofs.solve_shapes.Tie as tie
+use Rattle.kernel_lower.proofs.core.solve_shapes.Statement.{statement}
+use Rattle.kernel_lower.proofs.core.solve_shapes.Tie as tie
 
 returns : tie.Need-returns
 unfolding solveVerdict

@@ -1,9 +1,9 @@
--- `kernel_lower::lower_transpose_solve_inplace` meets its contract: what the checks of the shapes say, then what the core does. Assumes nothing.
+-- `kernel_lower_transpose::lower_transpose_solve_inplace` meets its contract: what the checks of the shapes say, then what the core does. Assumes nothing.
 use borrow.Author.Needs.{needs}
 use Rattle.refusal.proofs.Laws.{goes-on, answer-refused, answer-done}
 use Rattle.kernel_lower.proofs.Shapes.{solve-lengths}
-use Rattle.kernel_lower.proofs.lower_transpose_solve_inplace.Statement.{statement}
-use Rattle.kernel_lower.proofs.lower_transpose_solve_inplace.Tie as tie
+use Rattle.kernel_lower_transpose.proofs.lower_transpose_solve_inplace.Statement.{statement}
+use Rattle.kernel_lower_transpose.proofs.lower_transpose_solve_inplace.Tie as tie
 
 refuses : tie.Need-returns
 refuses c = answer-refused _ _ _ (c .before .before .solve-shapes .ensures) (c .before .refused .ensures) _ _ (c .if1 .taken)

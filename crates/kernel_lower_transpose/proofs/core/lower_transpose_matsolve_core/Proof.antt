@@ -1,4 +1,4 @@
--- `kernel_lower::core::lower_transpose_matsolve_core` meets its contract: a turn changes one column, which lies in the block. Assumes nothing.
+-- `kernel_lower_transpose::core::lower_transpose_matsolve_core` meets its contract: a turn changes one column, which lies in the block. Assumes nothing.
 use Prim.Native.Nat.{_+_, _-_, _*_, _≤_}
 use mathlib.Core.Path.{_≡_}
 use lib.ListN.{length}
@@ -8,9 +8,9 @@ use borrow.Author.Needs.{needs}
 use Rattle.scalar.specs.Loop.{steps}
 use Rattle.scalar.specs.Block.{within}
 use Rattle.scalar.proofs.Laws.{steps-next, column, kernels}
-use Rattle.kernel_lower.specs.Lower.{lowerTransposeSolve, lowerTransposeMatsolve}
-use Rattle.kernel_lower.proofs.core.lower_transpose_matsolve_core.Statement.{statement}
-use Rattle.kernel_lower.proofs.core.lower_transpose_matsolve_core.Tie as tie
+use Rattle.kernel_lower_transpose.specs.Transpose.{lowerTransposeSolve, lowerTransposeMatsolve}
+use Rattle.kernel_lower_transpose.proofs.core.lower_transpose_matsolve_core.Statement.{statement}
+use Rattle.kernel_lower_transpose.proofs.core.lower_transpose_matsolve_core.Tie as tie
 
 abbrev Inv-loop : tie.InvT-loop
 Inv-loop n nrhs l y₀ c₀ y c = (c ≤ nrhs) × (length y ≡ n * nrhs) × (y ≡ steps (λ c. within (c * n) n (lowerTransposeSolve n l)) c y₀)

@@ -1,8 +1,8 @@
--- `kernel_lower::matsolve_shapes` meets its contract: one check after the other. Assumes nothing.
+-- `kernel_lower::core::matsolve_shapes` meets its contract: one check after the other. Assumes nothing.
 use borrow.Author.Needs.{needs}
 use Rattle.kernel_lower.specs.Lower.{matsolveVerdict}
-use Rattle.kernel_lower.proofs.matsolve_shapes.Statement.{statement}
-use Rattle.kernel_lower.proofs.matsolve_shapes.Tie as tie
+use Rattle.kernel_lower.proofs.core.matsolve_shapes.Statement.{statement}
+use Rattle.kernel_lower.proofs.core.matsolve_shapes.Tie as tie
 
 returns : tie.Need-returns
 unfolding matsolveVerdict

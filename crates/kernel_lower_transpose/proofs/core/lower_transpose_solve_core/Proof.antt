@@ -1,4 +1,4 @@
--- `kernel_lower::core::lower_transpose_solve_core` meets its contract: as `lower_solve_core`; the indices count down, the loops do not. Assumes nothing.
+-- `kernel_lower_transpose::core::lower_transpose_solve_core` meets its contract: as `kernel_lower::core::lower_solve_core`; the indices count down, the loops do not. Assumes nothing.
 use Prim.Native.Nat.{_+_, _-_, _≤_}
 use mathlib.Core.Path.{_≡_}
 use lib.ListN.{length, getD}
@@ -6,10 +6,10 @@ use lib.Ieee.{nan}
 use borrow.Author.Needs.{needs}
 use Rattle.scalar.specs.Loop.{steps}
 use Rattle.scalar.specs.Block.{at, lose}
-use Rattle.kernel_lower.specs.Lower.{transposeRow, lowerTransposeSolve}
+use Rattle.kernel_lower_transpose.specs.Transpose.{transposeRow, lowerTransposeSolve}
 use Rattle.scalar.proofs.Laws.{steps-next, steps-all, kernels}
-use Rattle.kernel_lower.proofs.core.lower_transpose_solve_core.Statement.{statement}
-use Rattle.kernel_lower.proofs.core.lower_transpose_solve_core.Tie as tie
+use Rattle.kernel_lower_transpose.proofs.core.lower_transpose_solve_core.Statement.{statement}
+use Rattle.kernel_lower_transpose.proofs.core.lower_transpose_solve_core.Tie as tie
 
 abbrev Inv-loop2 : tie.InvT-loop2
 Inv-loop2 n l y t i s₀ u₀ s u = (u ≤ t) × (s ≡ steps (λ u s. lose s (at l n (i + 1 + u) i) (getD y (i + 1 + u) nan)) u (getD y i nan))
