@@ -8,7 +8,8 @@ use Rattle.refusal.specs.Check.{sizeCheck, areaCheck}
 use Rattle.kernel_lower.specs.Lower.{lowerSolve, lowerMatsolve}
 use Rattle.kernel_lower_transpose.specs.Transpose.{lowerTransposeSolve, lowerTransposeMatsolve}
 use Rattle.kernel_right.specs.Right.{lowerRightSolve, lowerTransposeRightsolve}
-use Rattle.kernel_diag.specs.Diag.{diagSolve, diagMatsolve, diagRightMatsolve}
+use Rattle.kernel_diag.specs.Diag.{diagSolve, diagMatsolve}
+use Rattle.kernel_diag_right.specs.DiagRight.{diagRightMatsolve}
 
 -- A⁻¹ x, x of n numbers: forward, the diagonal, backward
 unfoldable pub ldltSolve : ℕ → (l d x : List Float) → List Float

@@ -1,6 +1,6 @@
 // The solves where the lengths are known to be right, and the checks that they share with the blocks of a diagonal.
 use kernel_diag::core::diag_matsolve_core;
-use kernel_diag::core::diag_right_matsolve_core;
+use kernel_diag_right::core::diag_right_matsolve_core;
 use kernel_diag::core::diag_solve_core;
 use kernel_lower::core::lower_matsolve_core;
 use kernel_lower::core::lower_solve_core;

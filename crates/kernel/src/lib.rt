@@ -2,7 +2,7 @@
 pub mod view;
 
 pub use kernel_diag::diag_matsolve_inplaced;
-pub use kernel_diag::diag_right_matsolve_inplace;
+pub use kernel_diag_right::diag_right_matsolve_inplace;
 pub use kernel_diag::diag_solve_inplaced;
 pub use kernel_lower::lower_matsolve_inplace;
 pub use kernel_lower::lower_solve_inplace;

@@ -76,7 +76,7 @@ fn from_right(op: usize, p: usize, q: usize, a: &[f64], b: &mut [f64]) -> Shaped
     match op {
         7 => kernel_right::lower_right_solve_inplace(p, q, a, b),
         8 => kernel_right::lower_transpose_rightsolve_inplace(p, q, a, b),
-        _ => kernel_diag::diag_right_matsolve_inplace(p, q, a, b),
+        _ => kernel_diag_right::diag_right_matsolve_inplace(p, q, a, b),
     }
 }
 

@@ -1,8 +1,8 @@
--- `kernel_diag::diag_right_shapes` meets its contract: one check after the other. Assumes nothing.
+-- `kernel_diag_right::diag_right_shapes` meets its contract: one check after the other. Assumes nothing.
 use borrow.Author.Needs.{needs}
-use Rattle.kernel_diag.specs.Diag.{diagRightVerdict}
-use Rattle.kernel_diag.proofs.diag_right_shapes.Statement.{statement}
-use Rattle.kernel_diag.proofs.diag_right_shapes.Tie as tie
+use Rattle.kernel_diag_right.specs.DiagRight.{diagRightVerdict}
+use Rattle.kernel_diag_right.proofs.diag_right_shapes.Statement.{statement}
+use Rattle.kernel_diag_right.proofs.diag_right_shapes.Tie as tie
 
 returns : tie.Need-returns
 unfolding diagRightVerdict

@@ -1,9 +1,9 @@
--- `kernel_diag::diag_right_matsolve_inplace` meets its contract: what the checks of the shapes say, then what the core does. Assumes nothing.
+-- `kernel_diag_right::diag_right_matsolve_inplace` meets its contract: what the checks of the shapes say, then what the core does. Assumes nothing.
 use borrow.Author.Needs.{needs}
 use Rattle.refusal.proofs.Laws.{goes-on, answer-refused, answer-done}
-use Rattle.kernel_diag.proofs.Shapes.{diag-right-lengths}
-use Rattle.kernel_diag.proofs.diag_right_matsolve_inplace.Statement.{statement}
-use Rattle.kernel_diag.proofs.diag_right_matsolve_inplace.Tie as tie
+use Rattle.kernel_diag_right.proofs.Shapes.{diag-right-lengths}
+use Rattle.kernel_diag_right.proofs.diag_right_matsolve_inplace.Statement.{statement}
+use Rattle.kernel_diag_right.proofs.diag_right_matsolve_inplace.Tie as tie
 
 refuses : tie.Need-returns
 refuses c = answer-refused _ _ _ (c .before .before .diag-right-shapes .ensures) (c .before .refused .ensures) _ _ (c .if1 .taken)

@@ -1,4 +1,4 @@
--- `kernel_diag::core::diag_right_matsolve_core` meets its contract: two loops, two invariants: how far each loop of the definition is. Assumes nothing.
+-- `kernel_diag_right::core::diag_right_matsolve_core` meets its contract: two loops, two invariants: how far each loop of the definition is. Assumes nothing.
 use Prim.Native.Nat.{_-_, _*_, _≤_}
 use mathlib.Core.Path.{_≡_}
 use lib.ListN.{length, getD}
@@ -6,9 +6,10 @@ use lib.Ieee.{nan}
 use borrow.Author.Needs.{needs}
 use Rattle.scalar.specs.Loop.{steps}
 use Rattle.scalar.proofs.Laws.{steps-next, steps-all, kernels}
-use Rattle.kernel_diag.specs.Diag.{inverse, scaleColumn, diagRightMatsolve}
-use Rattle.kernel_diag.proofs.core.diag_right_matsolve_core.Statement.{statement}
-use Rattle.kernel_diag.proofs.core.diag_right_matsolve_core.Tie as tie
+use Rattle.kernel_diag.specs.Diag.{inverse}
+use Rattle.kernel_diag_right.specs.DiagRight.{scaleColumn, diagRightMatsolve}
+use Rattle.kernel_diag_right.proofs.core.diag_right_matsolve_core.Statement.{statement}
+use Rattle.kernel_diag_right.proofs.core.diag_right_matsolve_core.Tie as tie
 
 abbrev Inv-loop2 : tie.InvT-loop2
 Inv-loop2 m n d y₀ j by r₀ y r = (r ≤ m) × (length y ≡ m * n) × (y ≡ steps (scaleColumn m j by) r y₀)
