@@ -1,6 +1,6 @@
 // The decomposition of a block where the lengths are known to be right.
-use dense_ldlt::Definiteness;
-use dense_ldlt::LdltResult;
+use dense_pivots::Definiteness;
+use dense_pivots::LdltResult;
 use dense_ldlt::core::Factored;
 use dense_ldlt::core::ldlt_decompose_core;
 use scalar::blank;

@@ -102,7 +102,7 @@ fn solve(op: usize, p: usize, q: usize, a: &[f64], b: &[f64], c: &mut [f64]) -> 
         15 => dense_solve::ldlt_solve_inplace(p, a, b, c),
         16 => dense_solve::ldlt_matsolve_inplace(p, q, a, b, c),
         17 => dense_solve::ldlt_right_matsolve_inplace(p, q, a, b, c),
-        19 => block_diag_ldlt::solve_inplace_vec(p, a, b, c),
-        _ => block_diag_ldlt::right_solve_inplace(p, q, a, b, c),
+        19 => block_diag_solve::solve_inplace_vec(p, a, b, c),
+        _ => block_diag_solve::right_solve_inplace(p, q, a, b, c),
     }
 }

@@ -1,9 +1,9 @@
--- `block_diag_ldlt::solve_inplace_vec` meets its contract: what the checks of the shapes say, then what the core does. Assumes nothing.
+-- `block_diag_solve::solve_inplace_vec` meets its contract: what the checks of the shapes say, then what the core does. Assumes nothing.
 use borrow.Author.Needs.{needs}
 use Rattle.refusal.proofs.Laws.{goes-on, answer-refused, answer-done}
 use Rattle.dense_solve.proofs.Shapes.{solve-lengths}
-use Rattle.block_diag_ldlt.proofs.solve_inplace_vec.Statement.{statement}
-use Rattle.block_diag_ldlt.proofs.solve_inplace_vec.Tie as tie
+use Rattle.block_diag_solve.proofs.solve_inplace_vec.Statement.{statement}
+use Rattle.block_diag_solve.proofs.solve_inplace_vec.Tie as tie
 
 refuses : tie.Need-returns
 refuses c = answer-refused _ _ _ (c .before .before .solve-shapes .ensures) (c .before .refused .ensures) _ _ (c .if1 .taken)

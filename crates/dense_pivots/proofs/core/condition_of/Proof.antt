@@ -1,7 +1,7 @@
--- `dense_ldlt::core::condition_of` meets its contract: each arm returns what `cond` picks. Assumes nothing.
+-- `dense_pivots::core::condition_of` meets its contract: each arm returns what `cond` picks. Assumes nothing.
 use borrow.Author.Tests.{eq-eqb, ne-eqb}
-use Rattle.dense_ldlt.proofs.core.condition_of.Statement.{statement}
-use Rattle.dense_ldlt.proofs.core.condition_of.Tie as tie
+use Rattle.dense_pivots.proofs.core.condition_of.Statement.{statement}
+use Rattle.dense_pivots.proofs.core.condition_of.Tie as tie
 
 returns : tie.Need-returns
 returns c = simp (eq-eqb _ _ (c .if1 .taken))

@@ -1,8 +1,8 @@
--- `dense_ldlt::core::count` meets its contract: each return rewrites the definition with the test that led there; `cc` joins the fields of the record. Assumes nothing.
+-- `dense_pivots::core::count` meets its contract: each return rewrites the definition with the test that led there; `cc` joins the fields of the record. Assumes nothing.
 use borrow.Author.Needs.{needs}
-use Rattle.dense_ldlt.specs.Pivots.{counted}
-use Rattle.dense_ldlt.proofs.core.count.Statement.{statement}
-use Rattle.dense_ldlt.proofs.core.count.Tie as tie
+use Rattle.dense_pivots.specs.Pivots.{counted}
+use Rattle.dense_pivots.proofs.core.count.Statement.{statement}
+use Rattle.dense_pivots.proofs.core.count.Tie as tie
 
 returns : tie.Need-returns
 unfolding counted

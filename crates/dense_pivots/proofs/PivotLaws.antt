@@ -12,8 +12,8 @@ use lib.Ieee.{Float, nan, eq}
 use Rattle.scalar.specs.Loop.{steps}
 use Rattle.scalar.specs.Scalar.{nought}
 use Rattle.scalar.proofs.Laws.{steps-same}
-use Rattle.dense_ldlt.specs.Pivots.{noPivots, counted, pivotsOf}
-use Rattle.dense_ldlt.specs.declared.core.Pivots.{Pivots}
+use Rattle.dense_pivots.specs.Pivots.{noPivots, counted, pivotsOf}
+use Rattle.dense_pivots.specs.declared.core.Pivots.{Pivots}
 
 -- one more pivot raises the rank by one at most
 of-either : (b : Bool) (p q : Pivots) (m : ℕ) → p .rank ≤ m → q .rank ≤ m → cond b p q .rank ≤ m

@@ -9,10 +9,10 @@ use lib.Ieee.{Float, nan, binary64, mul, div, eq, lt}
 use Rattle.scalar.specs.Loop.{steps}
 use Rattle.scalar.specs.Scalar.{nought, one, greatestFinite, magnitude, max, min}
 use Rattle.refusal.specs.Refusal.{Told, accepted}
-use Rattle.dense_ldlt.specs.declared.core.Pivots.{Pivots}
-use Rattle.dense_ldlt.specs.declared.Definiteness.{Definiteness}
-use Rattle.dense_ldlt.specs.declared.Definiteness.the-variants.{PositiveDefinite, PositiveSemiDefinite, Indefinite}
-use Rattle.dense_ldlt.specs.declared.LdltResult.{LdltResult}
+use Rattle.dense_pivots.specs.declared.core.Pivots.{Pivots}
+use Rattle.dense_pivots.specs.declared.Definiteness.{Definiteness}
+use Rattle.dense_pivots.specs.declared.Definiteness.the-variants.{PositiveDefinite, PositiveSemiDefinite, Indefinite}
+use Rattle.dense_pivots.specs.declared.LdltResult.{LdltResult}
 
 -- before any pivot: the greatest starts at 1.0
 abbrev pub noPivots : Pivots

@@ -1,7 +1,7 @@
--- `dense_ldlt::core::result_of` meets its contract: each field is what its function gives. Assumes nothing.
+-- `dense_pivots::core::result_of` meets its contract: each field is what its function gives. Assumes nothing.
 use borrow.Author.Needs.{needs}
-use Rattle.dense_ldlt.proofs.core.result_of.Statement.{statement}
-use Rattle.dense_ldlt.proofs.core.result_of.Tie as tie
+use Rattle.dense_pivots.proofs.core.result_of.Statement.{statement}
+use Rattle.dense_pivots.proofs.core.result_of.Tie as tie
 
 returns : tie.Need-returns
 returns c = rw (c .before .definiteness-of .ensures, c .condition-of .ensures)
