@@ -1,13 +1,14 @@
 // Solves with one decomposed block A = L D Lᵀ of the diagonal, of block_diag_ldlt.rs. Here a dimension 0 is refused.
-use dense_solve::core::ldlt_right_matsolve_core;
 use dense_solve::core::ldlt_solve_core;
-use dense_solve::core::right_shapes;
 use dense_solve::core::solve_shapes;
+use dense_solve_right::core::ldlt_right_matsolve_core;
+use dense_solve_right::core::right_shapes;
 use refusal::Shaped;
 use refusal::refused;
 ghost use lib.ListN.{length};
 ghost use Rattle.refusal.specs.Shaped.{Answers};
-ghost use Rattle.dense_solve.specs.Solve.{ldltSolve, ldltRightMatsolve, solveVerdict, rightVerdict};
+ghost use Rattle.dense_solve.specs.Solve.{ldltSolve, solveVerdict};
+ghost use Rattle.dense_solve_right.specs.SolveRight.{ldltRightMatsolve, rightVerdict};
 
 // y := A⁻¹ y, with the factor mat_l of n rows and columns, d and y of n numbers.
 pub fn solve_inplace_vec(n: usize, mat_l: &[f64], d: &[f64], y: &mut [f64]) -> Shaped

@@ -7,7 +7,8 @@ ghost use Rattle.refusal.specs.Refusal.{number};
 ghost use Rattle.dense_ldlt.specs.Decompose as dense;
 ghost use Rattle.block_diag_ldlt.specs.Block as block;
 ghost use Rattle.refusal.specs.Shaped as shaped;
-ghost use Rattle.dense_solve.specs.Solve.{ldltSolve, ldltMatsolve, ldltRightMatsolve, solveVerdict, matsolveVerdict, rightVerdict};
+ghost use Rattle.dense_solve.specs.Solve.{ldltSolve, ldltMatsolve, solveVerdict, matsolveVerdict};
+ghost use Rattle.dense_solve_right.specs.SolveRight.{ldltRightMatsolve, rightVerdict};
 ghost use Rattle.kernel_product.specs.Product.{subMatDiagMatT, productVerdict};
 ghost use Rattle.c_abi.specs.Number.{numbered, Numbers};
 
@@ -65,7 +66,7 @@ pub extern "C" fn beyqaloosh_ldlt_matsolve_inplace(
     shaped_number(dense_solve::ldlt_matsolve_inplace(n, nrhs, mat_l, mat_d, mat_x))
 }
 
-// X := X A⁻¹: `dense_solve::ldlt_right_matsolve_inplace`.
+// X := X A⁻¹: `dense_solve_right::ldlt_right_matsolve_inplace`.
 #[no_mangle]
 pub extern "C" fn beyqaloosh_ldlt_right_matsolve_inplace(
     m: usize,
@@ -76,7 +77,7 @@ pub extern "C" fn beyqaloosh_ldlt_right_matsolve_inplace(
 ) -> u32
     ensures { λ r. ⌜ Numbers (rightVerdict 0 m n (length (now (ld .entry))) (length (now (d .entry))) (length (now (x .entry)))) (now (x .entry)) (ldltRightMatsolve m n (now (ld .entry)) (now (d .entry)) (now (x .entry))) r (now (x .exit)) ⌝ }
 {
-    shaped_number(dense_solve::ldlt_right_matsolve_inplace(m, n, ld, d, x))
+    shaped_number(dense_solve_right::ldlt_right_matsolve_inplace(m, n, ld, d, x))
 }
 
 // y := A⁻¹ y, for one block of a diagonal: `block_diag_solve::solve_inplace_vec`.

@@ -1,10 +1,10 @@
 // The LDLᵀ decomposition of one dense block, in place, of dense_ldlt.rs.
 pub mod core;
 
-pub use dense_pivots::Definiteness;
-pub use dense_pivots::LdltResult;
 use crate::core::Factored;
 use crate::core::ldlt_decompose_core;
+pub use dense_pivots::Definiteness;
+pub use dense_pivots::LdltResult;
 use scalar::is_tolerance;
 ghost use mathlib.Core.Path.{_≡_};
 ghost use Rattle.dense_ldlt.specs.Decompose.{told, decomposed};

@@ -1,7 +1,7 @@
 -- `block_diag_solve::right_solve_inplace` meets its contract: what the checks of the shapes say, then what the core does. Assumes nothing.
 use borrow.Author.Needs.{needs}
 use Rattle.refusal.proofs.Laws.{goes-on, answer-refused, answer-done}
-use Rattle.dense_solve.proofs.Shapes.{right-lengths}
+use Rattle.dense_solve_right.proofs.Shapes.{right-lengths}
 use Rattle.block_diag_solve.proofs.right_solve_inplace.Statement.{statement}
 use Rattle.block_diag_solve.proofs.right_solve_inplace.Tie as tie
 
