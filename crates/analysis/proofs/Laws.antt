@@ -1,20 +1,17 @@
 -- What tables that pass give the passes, and what the passes leave. Assumes nothing.
-use Prim.Native.Nat.{ℕ, zero, suc, _+_, _-_, _<_, _≤_}
+use Prim.Native.Nat.{ℕ, zero, suc, _+_, _<_, _≤_}
 use mathlib.Core.Path.{_≡_, refl, sym, ap, subst, _∙_}
 use mathlib.Core.Bool.{Bool}
 use mathlib.Core.List.{List, [], _∷_, map}
 use native.Mathlib.Omega.{arith}
-use lib.Dec.{T}
 use lib.ListN.{length, getD, length-map}
 use lib.Seq.{ext-getD}
 use Rattle.graph.specs.Sets.{from, between, sum}
-use Rattle.graph.specs.Order.{moved, Permutes}
 use Rattle.graph.specs.Symbolic as L
 use Rattle.graph.specs.Count.{productsOf}
 use Rattle.graph.proofs.SumLaws.{sum-ext}
 use Rattle.graph.proofs.SymbolicLaws.{columns-length}
-use Rattle.buckets.specs.Buckets.{lengths, before, Laid}
-use Rattle.buckets.proofs.Lists.{elem-at}
+use Rattle.buckets.specs.Buckets.{lengths, before}
 use Rattle.buckets.proofs.Laws.{lengths-at, before-sum}
 use Rattle.tables.specs.Sound.{Sizes, PlanSound}
 use Rattle.order.specs.Order.{sizesOf}
@@ -33,10 +30,6 @@ as-lower dims starts rows perm late p = record {
   bounds = λ c h r m. p .columns .members c r h m;
   ascends = p .columns .increasing;
 }
-
--- an order's entries are blocks
-pub order-below : (n : ℕ) (order : List ℕ) → Permutes n order → (k : ℕ) → k < n → getD order k 0 < n
-order-below n order p k h = p .below (getD order k 0) (elem-at order k (subst (λ (m : ℕ). k < m) (sym (p .entries)) h))
 
 -- the dimensions under an order
 pub sized : (n : ℕ) (dims order : List ℕ) → Sizes dims → length order ≡ n → Sized n (sizesOf dims order)

@@ -1,4 +1,4 @@
--- One block of the diagonal: module 6 of document 01, without the fallback. The solves are those of Rattle.dense_solve.specs.Solve. Assumes nothing.
+-- One block of the diagonal: module 6 of document 01, without the fallback. Assumes nothing.
 use Prim.Native.Nat.{ℕ, _*_}
 use mathlib.Core.Bool.{Bool, false, cond}
 use mathlib.Core.List.{List, [], _∷_}
@@ -7,11 +7,11 @@ use lib.Ieee.{Float, binary64, lt, ofBits}
 use Rattle.scalar.specs.Block.{nans}
 use Rattle.refusal.specs.Refusal.{Told, verdict, refuses, badDimension, badTolerance, shapesDisagree, pivotNotFinite, poorlyConditioned}
 use Rattle.refusal.specs.Check.{sizeCheck, toleranceCheck, areaCheck}
-use Rattle.dense_ldlt.specs.Pivots.{toldResult}
+use Rattle.dense_pivots.specs.Pivots.{toldResult}
 use Rattle.dense_ldlt.specs.Ldlt.{ldlt}
-use Rattle.dense_ldlt.specs.declared.Definiteness.{Definiteness}
-use Rattle.dense_ldlt.specs.declared.Definiteness.the-variants.{PositiveDefinite, PositiveSemiDefinite, Indefinite}
-use Rattle.dense_ldlt.specs.declared.LdltResult.{LdltResult}
+use Rattle.dense_pivots.specs.declared.Definiteness.{Definiteness}
+use Rattle.dense_pivots.specs.declared.Definiteness.the-variants.{PositiveDefinite, PositiveSemiDefinite, Indefinite}
+use Rattle.dense_pivots.specs.declared.LdltResult.{LdltResult}
 use Rattle.dense_ldlt.specs.declared.core.Factored.{Factored}
 use Rattle.dense_ldlt.specs.declared.core.Factored.the-variants as factored
 use Rattle.block_diag_ldlt.specs.declared.core.Settled.{Settled}

@@ -1,8 +1,8 @@
 // The decomposition of a block where the lengths are known to be right.
-use dense_ldlt::Definiteness;
-use dense_ldlt::LdltResult;
 use dense_ldlt::core::Factored;
 use dense_ldlt::core::ldlt_decompose_core;
+use dense_pivots::Definiteness;
+use dense_pivots::LdltResult;
 use scalar::blank;
 use scalar::core::copy;
 ghost use mathlib.Core.Path.{_≡_};

@@ -7,7 +7,8 @@ ghost use Rattle.refusal.specs.Refusal.{number};
 ghost use Rattle.dense_ldlt.specs.Decompose as dense;
 ghost use Rattle.block_diag_ldlt.specs.Block as block;
 ghost use Rattle.refusal.specs.Shaped as shaped;
-ghost use Rattle.dense_solve.specs.Solve.{ldltSolve, ldltMatsolve, ldltRightMatsolve, solveVerdict, matsolveVerdict, rightVerdict};
+ghost use Rattle.dense_solve.specs.Solve.{ldltSolve, ldltMatsolve, solveVerdict, matsolveVerdict};
+ghost use Rattle.dense_solve_right.specs.SolveRight.{ldltRightMatsolve, rightVerdict};
 ghost use Rattle.kernel_product.specs.Product.{subMatDiagMatT, productVerdict};
 ghost use Rattle.c_abi.specs.Number.{numbered, Numbers};
 
@@ -65,7 +66,7 @@ pub extern "C" fn beyqaloosh_ldlt_matsolve_inplace(
     shaped_number(dense_solve::ldlt_matsolve_inplace(n, nrhs, mat_l, mat_d, mat_x))
 }
 
-// X := X A⁻¹: `dense_solve::ldlt_right_matsolve_inplace`.
+// X := X A⁻¹: `dense_solve_right::ldlt_right_matsolve_inplace`.
 #[no_mangle]
 pub extern "C" fn beyqaloosh_ldlt_right_matsolve_inplace(
     m: usize,
@@ -76,10 +77,10 @@ pub extern "C" fn beyqaloosh_ldlt_right_matsolve_inplace(
 ) -> u32
     ensures { λ r. ⌜ Numbers (rightVerdict 0 m n (length (now (ld .entry))) (length (now (d .entry))) (length (now (x .entry)))) (now (x .entry)) (ldltRightMatsolve m n (now (ld .entry)) (now (d .entry)) (now (x .entry))) r (now (x .exit)) ⌝ }
 {
-    shaped_number(dense_solve::ldlt_right_matsolve_inplace(m, n, ld, d, x))
+    shaped_number(dense_solve_right::ldlt_right_matsolve_inplace(m, n, ld, d, x))
 }
 
-// y := A⁻¹ y, for one block of a diagonal: `block_diag_ldlt::solve_inplace_vec`.
+// y := A⁻¹ y, for one block of a diagonal: `block_diag_solve::solve_inplace_vec`.
 #[no_mangle]
 pub extern "C" fn beyqaloosh_solve_inplace_vec(
     n: usize,
@@ -89,10 +90,10 @@ pub extern "C" fn beyqaloosh_solve_inplace_vec(
 ) -> u32
     ensures { λ r. ⌜ Numbers (solveVerdict 1 n (length (now («mat_l» .entry))) (length (now (d .entry))) (length (now (y .entry)))) (now (y .entry)) (ldltSolve n (now («mat_l» .entry)) (now (d .entry)) (now (y .entry))) r (now (y .exit)) ⌝ }
 {
-    shaped_number(block_diag_ldlt::solve_inplace_vec(n, mat_l, d, y))
+    shaped_number(block_diag_solve::solve_inplace_vec(n, mat_l, d, y))
 }
 
-// X := X A⁻¹, for one block of a diagonal: `block_diag_ldlt::right_solve_inplace`.
+// X := X A⁻¹, for one block of a diagonal: `block_diag_solve::right_solve_inplace`.
 #[no_mangle]
 pub extern "C" fn beyqaloosh_right_solve_inplace(
     m: usize,
@@ -103,7 +104,7 @@ pub extern "C" fn beyqaloosh_right_solve_inplace(
 ) -> u32
     ensures { λ r. ⌜ Numbers (rightVerdict 1 m n (length (now («mat_l» .entry))) (length (now (d .entry))) (length (now (x .entry)))) (now (x .entry)) (ldltRightMatsolve m n (now («mat_l» .entry)) (now (d .entry)) (now (x .entry))) r (now (x .exit)) ⌝ }
 {
-    shaped_number(block_diag_ldlt::right_solve_inplace(m, n, mat_l, d, x))
+    shaped_number(block_diag_solve::right_solve_inplace(m, n, mat_l, d, x))
 }
 
 // Y := Y - A diag(d) Bᵀ: `kernel_product::sub_mat_diag_mat_t_inplace`.

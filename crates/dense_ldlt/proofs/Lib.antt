@@ -1,4 +1,3 @@
--- What belongs to no one function: the laws of the account of pivots, of one row, and of the verdict.
-pub mod PivotLaws
+-- What belongs to no one function: the laws of one row, and of the verdict.
 pub mod RowLaws
 pub mod VerdictLaws

@@ -11,7 +11,7 @@ use Rattle.scalar.specs.Block.{at, put, lose}
 use Rattle.scalar.specs.Scalar.{one, isFinite}
 use Rattle.scalar.proofs.Laws.{steps-same}
 use Rattle.dense_rows.specs.Row.{reducedEntry, dividedBy, dividedRow, pivotOf, stored}
-use Rattle.dense_ldlt.specs.Pivots.{rowTolerance}
+use Rattle.dense_pivots.specs.Pivots.{rowTolerance}
 use Rattle.dense_ldlt.specs.Ldlt.{ldltRow, going, stopped}
 
 -- ---- row j reads the first j of d alone

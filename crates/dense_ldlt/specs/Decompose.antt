@@ -6,7 +6,7 @@ use lib.ListN.{length}
 use lib.Ieee.{Float}
 use Rattle.refusal.specs.Refusal.{Told, verdict, refuses, badDimension, badTolerance, shapesDisagree, pivotNotFinite}
 use Rattle.refusal.specs.Check.{sizeCheck, toleranceCheck, areaCheck}
-use Rattle.dense_ldlt.specs.Pivots.{toldResult}
+use Rattle.dense_pivots.specs.Pivots.{toldResult}
 use Rattle.dense_ldlt.specs.Ldlt.{ldlt}
 use Rattle.dense_ldlt.specs.declared.core.Factored.{Factored}
 use Rattle.dense_ldlt.specs.declared.core.Factored.the-variants as factored

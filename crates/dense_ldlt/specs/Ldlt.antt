@@ -7,7 +7,7 @@ use Rattle.scalar.specs.Loop.{steps}
 use Rattle.scalar.specs.Block.{put, nans}
 use Rattle.scalar.specs.Scalar.{one, isFinite}
 use Rattle.dense_rows.specs.Row.{dividedRow, pivotOf, stored, clearUpper}
-use Rattle.dense_ldlt.specs.Pivots.{rowTolerance, resultOf}
+use Rattle.dense_pivots.specs.Pivots.{rowTolerance, resultOf}
 use Rattle.dense_ldlt.specs.declared.core.Factored.{Factored}
 use Rattle.dense_ldlt.specs.declared.core.Factored.the-variants.{Accepted, NotFinite}
 

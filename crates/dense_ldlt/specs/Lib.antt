@@ -1,4 +1,3 @@
 -- The written definitions that the contracts cite.
-pub mod Pivots
 pub mod Ldlt
 pub mod Decompose

@@ -3,28 +3,11 @@ pub mod core;
 
 use crate::core::Factored;
 use crate::core::ldlt_decompose_core;
+pub use dense_pivots::Definiteness;
+pub use dense_pivots::LdltResult;
 use scalar::is_tolerance;
 ghost use mathlib.Core.Path.{_≡_};
 ghost use Rattle.dense_ldlt.specs.Decompose.{told, decomposed};
-
-// What the stored pivots say of a block.
-pub enum Definiteness {
-    // All are positive.
-    PositiveDefinite,
-    // None is negative, and at least one is zero.
-    PositiveSemiDefinite,
-    // At least one is negative.
-    Indefinite,
-}
-
-// The record of an accepted block.
-pub struct LdltResult {
-    // How many stored pivots are not 0.0.
-    pub rank: usize,
-    pub definiteness: Definiteness,
-    // The least |d| that is not 0.0 over the greatest, which is 1.0 at least; 0.0 where all are 0.0.
-    pub pivot_condition: f64,
-}
 
 // The outcome of a decomposition.
 pub enum Decomposed {

@@ -1,10 +1,8 @@
-// Solves with a decomposed block, of dense_ldlt.rs: A below stands for L D Lᵀ, and its inverse for the kernels' solves in turn.
+// Solves with a decomposed block from the left, of dense_ldlt.rs: A below stands for L D Lᵀ, and its inverse for the kernels' solves in turn.
 pub mod core;
 
 use crate::core::ldlt_matsolve_core;
-use crate::core::ldlt_right_matsolve_core;
 use crate::core::ldlt_solve_core;
-use crate::core::right_shapes;
 use crate::core::solve_shapes;
 use refusal::Shaped;
 use refusal::area;
@@ -14,7 +12,7 @@ use refusal::unchecked;
 ghost use mathlib.Core.Path.{_≡_};
 ghost use lib.ListN.{length};
 ghost use Rattle.refusal.specs.Shaped.{told, Answers};
-ghost use Rattle.dense_solve.specs.Solve.{ldltSolve, ldltMatsolve, ldltRightMatsolve, solveVerdict, matsolveVerdict, rightVerdict};
+ghost use Rattle.dense_solve.specs.Solve.{ldltSolve, ldltMatsolve, solveVerdict, matsolveVerdict};
 
 // x := A⁻¹ x, with L of n rows and columns, d and x of n numbers.
 pub fn ldlt_solve_inplace(n: usize, mat_l: &[f64], mat_d: &[f64], x: &mut [f64]) -> Shaped
@@ -43,24 +41,6 @@ pub fn ldlt_matsolve_inplace(
         return s;
     }
     ldlt_matsolve_core(n, nrhs, mat_l, mat_d, mat_x);
-    s
-}
-
-// X := X A⁻¹, with L of n rows and columns, d of n numbers and X of m rows and n columns.
-pub fn ldlt_right_matsolve_inplace(
-    m: usize,
-    n: usize,
-    ld: &[f64],
-    d: &[f64],
-    x: &mut [f64],
-) -> Shaped
-    ensures { λ r. ⌜ Answers (rightVerdict 0 m n (length (now (ld .entry))) (length (now (d .entry))) (length (now (x .entry)))) (now (x .entry)) (ldltRightMatsolve m n (now (ld .entry)) (now (d .entry)) (now (x .entry))) r (now (x .exit)) ⌝ }
-{
-    let s = right_shapes(0, m, n, ld.len(), d.len(), x.len());
-    if refused(s) {
-        return s;
-    }
-    ldlt_right_matsolve_core(m, n, ld, d, x);
     s
 }
 

@@ -3,8 +3,8 @@ pub mod core;
 
 use crate::core::new_core;
 use refusal::Worked;
-use tables::Upper;
-use tables::check_upper;
+use upper_checks::Upper;
+use upper_checks::check_upper;
 ghost use lib.ListN.{length};
 ghost use Rattle.tables.specs.Sound.{UpperSound};
 ghost use Rattle.refusal.specs.Refusal.{verdict};

@@ -6,7 +6,7 @@ use Prim.Native.Nat.{ℕ, _*_}
 use Rattle.refusal.specs.Refusal.{refuses}
 use Rattle.refusal.specs.Check.{sizeCheck, areaCheck}
 use Rattle.refusal.proofs.Laws.{all-pass, area-passes, column-passes}
-use Rattle.kernel_diag.specs.Diag.{diagVerdict, diagMatVerdict, diagRightVerdict}
+use Rattle.kernel_diag.specs.Diag.{diagVerdict, diagMatVerdict}
 
 pub diag-lengths : (n d y : ℕ) → refuses (diagVerdict n d y) ≡ false → (d ≡ n) × (y ≡ n)
 unfolding diagVerdict
@@ -18,10 +18,4 @@ pub diag-mat-lengths : (n nrhs d y : ℕ) → refuses (diagMatVerdict n nrhs d y
 unfolding diagMatVerdict
 diag-mat-lengths n nrhs d y e =
     let all = all-pass (sizeCheck 0 0 n ∷ sizeCheck 0 1 nrhs ∷ areaCheck 0 n 1 d ∷ areaCheck 1 n nrhs y ∷ []) e in
-    (column-passes _ _ _ (all .1 .1 .0), area-passes _ _ _ _ (all .1 .1 .1 .0))
-
-pub diag-right-lengths : (m n d y : ℕ) → refuses (diagRightVerdict m n d y) ≡ false → (d ≡ n) × (y ≡ m * n)
-unfolding diagRightVerdict
-diag-right-lengths m n d y e =
-    let all = all-pass (sizeCheck 0 0 m ∷ sizeCheck 0 1 n ∷ areaCheck 0 n 1 d ∷ areaCheck 1 m n y ∷ []) e in
     (column-passes _ _ _ (all .1 .1 .0), area-passes _ _ _ _ (all .1 .1 .1 .0))

@@ -1,4 +1,4 @@
--- Solves with a diagonal D, whose numbers are d: kernel.rs. A d equal to 0.0, as -0.0 is, gives 0.0 in the vector form and a factor of 0.0 in the others.
+-- Solves with a diagonal D from the left, whose numbers are d: kernel.rs. A d equal to 0.0, as -0.0 is, gives 0.0 in the vector form and a factor of 0.0 in the other.
 -- Assumes nothing.
 use Prim.Native.Nat.{ℕ}
 use mathlib.Core.Bool.{cond}
@@ -30,13 +30,6 @@ scaleRow n i by c y = put y n i c (mul binary64 (at y n i c) by)
 unfoldable pub diagMatsolve : ℕ → ℕ → List Float → List Float → List Float
 diagMatsolve n nrhs d y = steps (λ i. steps (scaleRow n i (inverse (getD d i nan))) nrhs) n y
 
--- Y D⁻¹, Y of m rows and n columns: column j is multiplied by 1 / d(j)
-abbrev pub scaleColumn : ℕ → ℕ → Float → ℕ → List Float → List Float
-scaleColumn m j by r y = put y m r j (mul binary64 (at y m r j) by)
-
-unfoldable pub diagRightMatsolve : ℕ → ℕ → List Float → List Float → List Float
-diagRightMatsolve m n d y = steps (λ j. steps (scaleColumn m j (inverse (getD d j nan))) m) n y
-
 -- ---- what is refused, by the sizes and by how many numbers each slice has
 
 -- d and y of n numbers
@@ -46,7 +39,3 @@ diagVerdict n d y = verdict (sizeCheck 0 0 n ∷ areaCheck 0 n 1 d ∷ areaCheck
 -- d of n numbers, Y of n rows and nrhs columns
 unfoldable pub diagMatVerdict : ℕ → ℕ → (d y : ℕ) → Told
 diagMatVerdict n nrhs d y = verdict (sizeCheck 0 0 n ∷ sizeCheck 0 1 nrhs ∷ areaCheck 0 n 1 d ∷ areaCheck 1 n nrhs y ∷ [])
-
--- d of n numbers, Y of m rows and n columns
-unfoldable pub diagRightVerdict : ℕ → ℕ → (d y : ℕ) → Told
-diagRightVerdict m n d y = verdict (sizeCheck 0 0 m ∷ sizeCheck 0 1 n ∷ areaCheck 0 n 1 d ∷ areaCheck 1 m n y ∷ [])

@@ -4,7 +4,7 @@ use scalar::core::store;
 ghost use mathlib.Core.Path.{_≡_};
 ghost use Prim.Native.Nat.{_*_};
 ghost use lib.ListN.{length};
-ghost use Rattle.kernel_diag.specs.Diag.{quotient, inverse, diagSolve, diagMatsolve, diagRightMatsolve};
+ghost use Rattle.kernel_diag.specs.Diag.{quotient, inverse, diagSolve, diagMatsolve};
 
 // y / d, and 0.0 where d is 0.0.
 fn quotient_of(y: f64, d: f64) -> f64
@@ -14,7 +14,7 @@ fn quotient_of(y: f64, d: f64) -> f64
 }
 
 // 1 / d, and 0.0 where d is 0.0.
-fn inverse_of(d: f64) -> f64
+pub fn inverse_of(d: f64) -> f64
     ensures { λ r. ⌜ r ≡ inverse d ⌝ }
 {
     if d == 0.0 { 0.0 } else { 1.0 / d }
@@ -40,20 +40,6 @@ pub fn diag_matsolve_core(n: usize, nrhs: usize, d: &[f64], y: &mut [f64])
         for c in 0..nrhs {
             let v = entry(&y[..], n, nrhs, i, c) * by;
             store(y, n, nrhs, i, c, v);
-        }
-    }
-}
-
-// Y := Y D⁻¹
-pub fn diag_right_matsolve_core(m: usize, n: usize, d: &[f64], y: &mut [f64])
-    requires { ⌜ (length (now d) ≡ n) × (length (now y) ≡ m * n) ⌝ }
-    ensures { λ _. ⌜ now (y .exit) ≡ diagRightMatsolve m n (now (d .entry)) (now (y .entry)) ⌝ }
-{
-    for j in 0..n {
-        let by = inverse_of(d[j]);
-        for r in 0..m {
-            let v = entry(&y[..], m, n, r, j) * by;
-            store(y, m, n, r, j, v);
         }
     }
 }

@@ -1,9 +1,8 @@
-// Solves with a diagonal, of kernel.rs. Where d is 0.0 the vector form answers 0.0 and the matrix forms multiply by 0.0, so a
+// Solves with a diagonal from the left, of kernel.rs. Where d is 0.0 the vector form answers 0.0 and the matrix forms multiply by 0.0, so a
 // semi-definite block is solved with too.
 pub mod core;
 
 use crate::core::diag_matsolve_core;
-use crate::core::diag_right_matsolve_core;
 use crate::core::diag_solve_core;
 use refusal::Shaped;
 use refusal::area;
@@ -13,7 +12,7 @@ use refusal::unchecked;
 ghost use mathlib.Core.Path.{_≡_};
 ghost use lib.ListN.{length};
 ghost use Rattle.refusal.specs.Shaped.{told, Answers};
-ghost use Rattle.kernel_diag.specs.Diag.{diagSolve, diagMatsolve, diagRightMatsolve, diagVerdict, diagMatVerdict, diagRightVerdict};
+ghost use Rattle.kernel_diag.specs.Diag.{diagSolve, diagMatsolve, diagVerdict, diagMatVerdict};
 
 // y := D⁻¹ y, with d and y of n numbers.
 pub fn diag_solve_inplaced(n: usize, d: &[f64], y: &mut [f64]) -> Shaped
@@ -39,18 +38,6 @@ pub fn diag_matsolve_inplaced(n: usize, nrhs: usize, d: &[f64], y: &mut [f64]) -
     s
 }
 
-// Y := Y D⁻¹, with d of n numbers and Y of m rows and n columns.
-pub fn diag_right_matsolve_inplace(m: usize, n: usize, d: &[f64], y: &mut [f64]) -> Shaped
-    ensures { λ r. ⌜ Answers (diagRightVerdict m n (length (now (d .entry))) (length (now (y .entry)))) (now (y .entry)) (diagRightMatsolve m n (now (d .entry)) (now (y .entry))) r (now (y .exit)) ⌝ }
-{
-    let s = diag_right_shapes(m, n, d.len(), y.len());
-    if refused(s) {
-        return s;
-    }
-    diag_right_matsolve_core(m, n, d, y);
-    s
-}
-
 // The shapes of a solve with one right side.
 fn diag_shapes(n: usize, d: usize, y: usize) -> Shaped
     ensures { λ r. ⌜ told r ≡ diagVerdict n d y ⌝ }
@@ -68,14 +55,4 @@ fn diag_mat_shapes(n: usize, nrhs: usize, d: usize, y: usize) -> Shaped
     let s = size(s, 0, 1, nrhs);
     let s = area(s, 0, n, 1, d);
     area(s, 1, n, nrhs, y)
-}
-
-// The shapes of a solve from the right.
-fn diag_right_shapes(m: usize, n: usize, d: usize, y: usize) -> Shaped
-    ensures { λ r. ⌜ told r ≡ diagRightVerdict m n d y ⌝ }
-{
-    let s = size(unchecked(), 0, 0, m);
-    let s = size(s, 0, 1, n);
-    let s = area(s, 0, n, 1, d);
-    area(s, 1, m, n, y)
 }

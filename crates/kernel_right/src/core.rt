@@ -1,10 +1,15 @@
-// The substitutions where the lengths are known to be right.
+// The substitution where the lengths are known to be right, and the checks of the lengths.
+use refusal::Shaped;
+use refusal::area;
+use refusal::size;
+use refusal::unchecked;
 use scalar::core::entry;
 use scalar::core::store;
 ghost use mathlib.Core.Path.{_≡_};
 ghost use Prim.Native.Nat.{_+_, _*_, _<_};
 ghost use lib.ListN.{length};
-ghost use Rattle.kernel_right.specs.Right.{rightLess, lowerRightSolve, transposeLess, lowerTransposeRightsolve};
+ghost use Rattle.refusal.specs.Shaped.{told};
+ghost use Rattle.kernel_right.specs.Right.{rightLess, lowerRightSolve, rightVerdict};
 
 // X := X L⁻¹, in each row the columns from the last to the first.
 pub fn lower_right_solve_core(m: usize, n: usize, l: &[f64], x: &mut [f64])
@@ -33,27 +38,12 @@ fn less_after(m: usize, n: usize, r: usize, j: usize, u: usize, l: &[f64], x: &[
     s
 }
 
-// X := X L⁻ᵀ, in each row the columns from the first to the last.
-pub fn lower_transpose_rightsolve_core(m: usize, n: usize, l: &[f64], x: &mut [f64])
-    requires { ⌜ (length (now l) ≡ n * n) × (length (now x) ≡ m * n) ⌝ }
-    ensures { λ _. ⌜ now (x .exit) ≡ lowerTransposeRightsolve m n (now (l .entry)) (now (x .entry)) ⌝ }
+// The shapes of a solve from the right.
+pub fn right_shapes(m: usize, n: usize, l: usize, x: usize) -> Shaped
+    ensures { λ r. ⌜ told r ≡ rightVerdict m n l x ⌝ }
 {
-    for r in 0..m {
-        for j in 0..n {
-            let s = less_before(m, n, r, j, l, &x[..]);
-            store(x, m, n, r, j, s);
-        }
-    }
-}
-
-// x(r, j), less x(r, t) * L(j, t) for t = 0, .., j - 1.
-fn less_before(m: usize, n: usize, r: usize, j: usize, l: &[f64], x: &[f64]) -> f64
-    requires { ⌜ (r < m) × (j < n) × (length (now l) ≡ n * n) × (length (now x) ≡ m * n) ⌝ }
-    ensures { λ s. ⌜ s ≡ transposeLess m n (now (l .entry)) (now (x .entry)) r j ⌝ }
-{
-    let mut s = entry(x, m, n, r, j);
-    for t in 0..j {
-        s = s - entry(x, m, n, r, t) * entry(l, n, n, j, t);
-    }
-    s
+    let s = size(unchecked(), 0, 0, m);
+    let s = size(s, 0, 1, n);
+    let s = area(s, 0, n, n, l);
+    area(s, 1, m, n, x)
 }

@@ -19,20 +19,8 @@ rowSum m n a b r = steps (λ c s. gain s (at a m r c) (getD b c nan)) n nought
 unfoldable pub subMatPlusVec : ℕ → ℕ → List Float → List Float → List Float → List Float
 subMatPlusVec m n y a b = steps (λ r y. set y r (sub binary64 (getD y r nan) (rowSum m n a b r))) m y
 
--- column c of A, of m rows, times z
-abbrev pub columnSum : ℕ → List Float → List Float → ℕ → Float
-columnSum m a z c = steps (λ r s. gain s (at a m r c) (getD z r nan)) m nought
-
--- x - Aᵀ z
-unfoldable pub subMatTransposePlusVec : ℕ → ℕ → List Float → List Float → List Float → List Float
-subMatTransposePlusVec m n x a z = steps (λ c x. set x c (sub binary64 (getD x c nan) (columnSum m a z c))) n x
-
 -- ---- what is refused, by the sizes and by how many numbers each slice has
 
 -- y of m numbers, A of m rows and n columns, b of n numbers
 unfoldable pub vectorVerdict : ℕ → ℕ → (y a b : ℕ) → Told
 vectorVerdict m n y a b = verdict (sizeCheck 0 0 m ∷ sizeCheck 0 1 n ∷ areaCheck 0 m 1 y ∷ areaCheck 1 m n a ∷ areaCheck 2 n 1 b ∷ [])
-
--- x of n numbers, A of m rows and n columns, z of m numbers
-unfoldable pub transposeVerdict : ℕ → ℕ → (x a z : ℕ) → Told
-transposeVerdict m n x a z = verdict (sizeCheck 0 0 m ∷ sizeCheck 0 1 n ∷ areaCheck 0 n 1 x ∷ areaCheck 1 m n a ∷ areaCheck 2 m 1 z ∷ [])

@@ -4,7 +4,7 @@ use lib.Ieee.{ofBits, neg, mul, div, lt, eq, le, isNan}
 use Rattle.scalar.specs.Loop.{steps}
 use Rattle.scalar.specs.Scalar.{magnitude, isFinite, max, min}
 use Rattle.dense_rows.specs.Row.{dividedBy, stored, clearUpper}
-use Rattle.dense_ldlt.specs.Pivots.{counted, pivotsOf}
+use Rattle.dense_pivots.specs.Pivots.{counted, pivotsOf}
 use Rattle.dense_ldlt.specs.Ldlt.{ldlt, ldltRow}
 use Rattle.dense_ldlt.specs.Decompose as dense
 use Rattle.block_diag_ldlt.specs.Block as block

@@ -14,8 +14,8 @@ use Rattle.graph.specs.Count.{triples}
 use Rattle.graph.specs.Liu.{treeParent}
 use Rattle.scalar.specs.Scalar.{nought, one}
 use Rattle.refusal.specs.Refusal.{Told, accepted, poorlyConditioned}
-use Rattle.dense_ldlt.specs.Pivots.{definitenessNumber}
-use Rattle.dense_ldlt.specs.declared.Definiteness.the-variants.{PositiveDefinite, PositiveSemiDefinite, Indefinite}
+use Rattle.dense_pivots.specs.Pivots.{definitenessNumber}
+use Rattle.dense_pivots.specs.declared.Definiteness.the-variants.{PositiveDefinite, PositiveSemiDefinite, Indefinite}
 use Rattle.dense_ldlt.specs.Decompose as dense
 use Rattle.block_diag_ldlt.specs.Block as block
 

@@ -13,14 +13,10 @@ use Rattle.graph.specs.Sets.{elem, keep, filter, from, Uniq}
 use Rattle.graph.specs.Order.{isLate, moved, Permutes}
 use Rattle.graph.proofs.SetLaws.{decide, eqb-of, elem-head, elem-tail, elem-cases, filter-intro, from-intro, is-true, is-false}
 use Rattle.graph.proofs.OrderLaws.{moved-permutes}
+use Rattle.buckets.proofs.Lists.{elem-at}
 use Rattle.order.specs.Order.{inGroup, group, Inverse, sizesOf}
 
 -- ---- lists by their places
-
-pub elem-at : (l : List ℕ) (i : ℕ) → i < length l → T (elem (getD l i 0) l)
-elem-at [] i h = absurd (omega arith)
-elem-at (x ∷ l) zero h = elem-head x l
-elem-at (x ∷ l) (suc i) h = elem-tail (getD l i 0) x l (elem-at l i (omega arith))
 
 -- an element has a place
 pub place-of : (x : ℕ) (l : List ℕ) → T (elem x l) → (i : ℕ) × (i < length l) × (getD l i 0 ≡ x)

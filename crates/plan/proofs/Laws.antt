@@ -1,7 +1,7 @@
 -- What the plan answers in each case, and how a plan in the first places of longer buffers is one in the whole. Assumes nothing.
 use Prim.Native.Nat.{ℕ, zero, suc, _+_, _≤_, _<_}
 use mathlib.Core.Bool.{Bool, true, false, cond, false≢true}
-use mathlib.Core.List.{List, [], _∷_, _++_, append-nil, append-assoc}
+use mathlib.Core.List.{List, [], _∷_, _++_, append-nil}
 use mathlib.Core.Logic.{_↔_}
 use mathlib.Core.Path.{_≡_, refl, sym, ap, subst, _∙_}
 use native.Mathlib.Omega.{arith}
@@ -16,10 +16,9 @@ use Rattle.graph.specs.Fill.{Least}
 use Rattle.graph.specs.Tree.{Parent}
 use Rattle.graph.specs.Symbolic as L
 use Rattle.graph.proofs.Whole.{whole-in, linked-symm, parent-of-least}
-use Rattle.refusal.specs.Refusal.{Told, done, accepted, shortBuffer, refuses, firstOf, verdict, verdictAfter, after}
-use Rattle.refusal.specs.Check.{needCheck}
+use Rattle.refusal.specs.Refusal.{Told, done, shortBuffer, refuses, firstOf, verdict, verdictAfter, after}
 use Rattle.refusal.proofs.Laws.{stays-refused, first-refuses, need-short, need-met}
-use Rattle.needs.specs.Needs.{lentFrom, needChecks}
+use Rattle.needs.specs.Needs.{needChecks}
 use Rattle.tables.specs.Verdict.{planVerdict}
 use Rattle.elimination_tree.specs.Tree.{decode, linkedUp, parentsOf}
 use Rattle.elimination_tree.proofs.Links.{parents-length, parents-least}

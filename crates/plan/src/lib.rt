@@ -4,10 +4,10 @@ pub mod core;
 
 use crate::core::planned_core;
 use analysis::core::Counts;
+use checks::PlanTables;
+use checks::check_plan;
 use needs::Room;
 use needs::first_short;
-use tables::PlanTables;
-use tables::check_plan;
 ghost use Rattle.refusal.specs.Refusal.{verdict};
 ghost use Rattle.needs.specs.Needs.{needChecks};
 ghost use Rattle.tables.specs.Sound.{PlanSound};

@@ -3,8 +3,8 @@ pub mod core;
 
 use crate::core::Mark;
 use crate::core::reach_core;
-use tables::Tree;
-use tables::check_tree;
+use upper_checks::Tree;
+use upper_checks::check_tree;
 ghost use lib.ListN.{length};
 ghost use Rattle.tables.specs.Sound.{TreeSound};
 ghost use Rattle.refusal.specs.Refusal.{verdict};

@@ -12,8 +12,8 @@ use native.Mathlib.Omega.{arith}
 use borrow.Author.Tests.{eq-eqb, ne-eqb, lt-ltb, le-ltb}
 use lib.Dec.{T, ltb, eqb}
 use lib.Ieee.{Float}
-use lib.ListN.{length, drop, length-drop}
-use lib.Seq.{length-take-le, getD-take, getD-drop}
+use lib.ListN.{length, take}
+use lib.Seq.{length-slice, getD-take, getD-drop}
 use Rattle.graph.specs.Sets.{elem}
 use Rattle.graph.specs.Links.{rowsIn}
 use Rattle.order.specs.Order.{Inverse}
@@ -46,10 +46,10 @@ module _ {least : ℕ → ℕ} {n : ℕ} {starts rows : List ℕ} (c : Columns l
       let hi = at starts (column + 1) in
       let up = c .ordered .rising column h in
       let in′ = c .ordered .inside (column + 1) (omega arith) in
-      let long : length (rowsIn starts rows column) ≡ hi - lo = length-take-le (hi - lo) (drop lo rows) (omega (arith, length-drop lo rows)) in
+      let long : length (rowsIn starts rows column) ≡ hi - lo = length-slice lo hi rows in′ in
       let r = place-of row (rowsIn starts rows column) t in
       let i : r .0 < hi - lo = omega (arith, r .1, long) in
-      let e : at rows (lo + r .0) ≡ row = sym (getD-take (hi - lo) (drop lo rows) (r .0) 0 i ∙ getD-drop lo rows (r .0) 0) ∙ r .2 in
+      let e : at rows (lo + r .0) ≡ row = sym (getD-drop lo (take hi rows) (r .0) 0 ∙ getD-take hi rows (lo + r .0) 0 (omega arith)) ∙ r .2 in
       let p : placeOf starts rows row column ≡ lo + r .0 = ap (λ (x : ℕ). placeOf starts rows x column) (sym e) ∙ place-is column (lo + r .0) h (omega arith) (omega arith) in
       subst (Stored starts rows n row column) (sym p) (record { inside = omega arith; here = e; of = column-is (c .ordered) column (lo + r .0) h (omega arith) (omega arith) })
 

@@ -1,8 +1,8 @@
 // Scalars and bodies under the order of elimination, where the tables are known to be good. A's values stay where they are: a
 // body is copied, or transposed where it lands above the diagonal, when its column is loaded.
+use columns::core::block_area;
 use scalar::core::copy;
 use scalar::core::entry;
-use tables::core::block_area;
 ghost use mathlib.Core.Path.{_≡_};
 ghost use mathlib.Core.Bool.{Bool};
 ghost use Prim.Native.Nat.{ℕ, _+_, _*_, _≤_, _<_};

@@ -1,8 +1,8 @@
 -- The sums of the counting pass: over the blocks so far, over what is left of a list, and over L by columns instead of rows. Assumes nothing.
-use Prim.Native.Nat.{ℕ, zero, suc, _+_, _-_, _*_, _/_, _<_, _≤_}
+use Prim.Native.Nat.{ℕ, _+_, _-_, _*_, _/_, _<_, _≤_}
 use mathlib.Core.Path.{_≡_, refl, sym, ap, subst, _∙_}
 use mathlib.Core.Bool.{Bool, true, false}
-use mathlib.Core.List.{List, [], _∷_}
+use mathlib.Core.List.{List, _∷_}
 use native.Mathlib.Omega.{arith}
 use native.Mathlib.Numerals.{add-one}
 use native.Mathlib.Nat.{mul-le-mul, mul-suc}
@@ -11,13 +11,12 @@ use lib.ListN.{length, getD, drop, drop-of-length-le}
 use lib.Seq.{drop-cons}
 use Rattle.graph.specs.Sets.{elem, from, between, sum}
 use Rattle.graph.specs.Symbolic.{reach, rows}
-use Rattle.graph.specs.Liu.{treeParent}
 use Rattle.graph.specs.Count.{productsOf}
-use Rattle.graph.proofs.SetLaws.{elem-head, elem-tail, between-elim, between-intro, between-inc, inc-uniq}
+use Rattle.graph.proofs.SetLaws.{between-elim, between-intro, between-inc, inc-uniq}
 use Rattle.graph.proofs.SumLaws.{sum-ext, sum-swap, weigh, sum-weights}
 use Rattle.graph.proofs.SymbolicLaws.{rows-right, rows-ascending}
 use Rattle.buckets.proofs.Laws.{sum-snoc}
-use Rattle.symbolic.specs.Columns.{Sized, area, numbersOf}
+use Rattle.symbolic.specs.Columns.{Sized, area}
 use Rattle.symbolic.proofs.Columns.{reached, reached-once, reached-rows}
 
 -- ---- the sum of f over the first k numbers

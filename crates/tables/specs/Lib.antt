@@ -1,5 +1,4 @@
--- What the contracts of `tables` cite. Each module says at its top what it holds.
+-- What the checks of tables cite. Each module says at its top what it holds.
 pub mod Search
 pub mod Verdict
 pub mod Sound
-pub mod Outcome

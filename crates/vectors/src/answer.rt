@@ -1,6 +1,6 @@
 // What a call answers, as the list writes it: a number, indices, floats.
-use dense_ldlt::Definiteness;
-use dense_ldlt::LdltResult;
+use dense_pivots::Definiteness;
+use dense_pivots::LdltResult;
 use refusal::Shaped;
 use replay::count;
 use replay::float;
@@ -11,7 +11,7 @@ ghost use mathlib.Core.Bool.{true};
 ghost use mathlib.Core.List.{[], _∷_};
 ghost use Rattle.refusal.specs.Refusal.{tells};
 ghost use Rattle.refusal.specs.Shaped.{told};
-ghost use Rattle.dense_ldlt.specs.Pivots.{toldResult};
+ghost use Rattle.dense_pivots.specs.Pivots.{toldResult};
 ghost use Rattle.dense_ldlt.specs.Decompose.{told as toldDense};
 ghost use Rattle.block_diag_ldlt.specs.Block.{told as toldBlock};
 ghost use Prim.Native.Nat.{_<_};

@@ -64,8 +64,8 @@ fn from_left(op: usize, p: usize, q: usize, a: &[f64], b: &mut [f64]) -> Shaped 
     match op {
         1 => kernel_lower::lower_solve_inplace(p, a, b),
         2 => kernel_lower::lower_matsolve_inplace(p, q, a, b),
-        3 => kernel_lower::lower_transpose_solve_inplace(p, a, b),
-        4 => kernel_lower::lower_transpose_matsolve_inplace(p, q, a, b),
+        3 => kernel_lower_transpose::lower_transpose_solve_inplace(p, a, b),
+        4 => kernel_lower_transpose::lower_transpose_matsolve_inplace(p, q, a, b),
         5 => kernel_diag::diag_solve_inplaced(p, a, b),
         _ => kernel_diag::diag_matsolve_inplaced(p, q, a, b),
     }
@@ -75,8 +75,8 @@ fn from_left(op: usize, p: usize, q: usize, a: &[f64], b: &mut [f64]) -> Shaped 
 fn from_right(op: usize, p: usize, q: usize, a: &[f64], b: &mut [f64]) -> Shaped {
     match op {
         7 => kernel_right::lower_right_solve_inplace(p, q, a, b),
-        8 => kernel_right::lower_transpose_rightsolve_inplace(p, q, a, b),
-        _ => kernel_diag::diag_right_matsolve_inplace(p, q, a, b),
+        8 => kernel_right_transpose::lower_transpose_rightsolve_inplace(p, q, a, b),
+        _ => kernel_diag_right::diag_right_matsolve_inplace(p, q, a, b),
     }
 }
 
@@ -92,7 +92,7 @@ fn product(h: Head, a: &mut [f64], b: &[f64], c: &[f64], d: &[f64]) -> Shaped {
 fn vector(op: usize, p: usize, q: usize, a: &mut [f64], b: &[f64], c: &[f64]) -> Shaped {
     match op {
         12 => kernel_vector::sub_mat_plus_vec_inplace(p, q, a, b, c),
-        _ => kernel_vector::sub_mat_transpose_plus_vec_in_place(p, q, a, b, c),
+        _ => kernel_vector_transpose::sub_mat_transpose_plus_vec_in_place(p, q, a, b, c),
     }
 }
 
@@ -101,8 +101,8 @@ fn solve(op: usize, p: usize, q: usize, a: &[f64], b: &[f64], c: &mut [f64]) -> 
     match op {
         15 => dense_solve::ldlt_solve_inplace(p, a, b, c),
         16 => dense_solve::ldlt_matsolve_inplace(p, q, a, b, c),
-        17 => dense_solve::ldlt_right_matsolve_inplace(p, q, a, b, c),
-        19 => block_diag_ldlt::solve_inplace_vec(p, a, b, c),
-        _ => block_diag_ldlt::right_solve_inplace(p, q, a, b, c),
+        17 => dense_solve_right::ldlt_right_matsolve_inplace(p, q, a, b, c),
+        19 => block_diag_solve::solve_inplace_vec(p, a, b, c),
+        _ => block_diag_solve::right_solve_inplace(p, q, a, b, c),
     }
 }

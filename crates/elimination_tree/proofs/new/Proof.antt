@@ -5,7 +5,7 @@ use borrow.Author.Needs.{needs}
 use lib.ListN.{length}
 use Rattle.refusal.specs.Refusal.{Told, done, refuses}
 use Rattle.tables.specs.Verdict.{upperVerdict}
-use Rattle.tables.specs.Outcome.{toldUpper}
+use Rattle.upper_checks.specs.Outcome.{toldUpper}
 use Rattle.tables.proofs.Sound.{upper-sound}
 use Rattle.elimination_tree.specs.New.{Grows}
 use Rattle.elimination_tree.proofs.NewLaws.{pattern-refused, pattern-passed}

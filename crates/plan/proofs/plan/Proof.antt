@@ -1,10 +1,9 @@
 -- `plan::plan` meets its contract: the tables are refused, or they pass and the needs decide. Assumes nothing.
-use Prim.Native.Nat.{ℕ}
 use mathlib.Core.Path.{_≡_, refl, sym, ap, subst, _∙_}
 use borrow.Author.Needs.{needs}
 use Rattle.refusal.specs.Refusal.{Told, done, refuses}
 use Rattle.tables.specs.Verdict.{planVerdict}
-use Rattle.tables.specs.Outcome.{toldPlan}
+use Rattle.checks.specs.Outcome.{toldPlan}
 use Rattle.tables.proofs.Sound.{plan-sound}
 use Rattle.plan.specs.Plan.{Night, Places, night, places, Plans}
 use Rattle.plan.proofs.Laws.{tables-refused, tables-passed}

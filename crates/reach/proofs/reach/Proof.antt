@@ -4,7 +4,7 @@ use borrow.Author.Needs.{needs}
 use lib.ListN.{length}
 use Rattle.refusal.specs.Refusal.{Told, done, refuses}
 use Rattle.tables.specs.Verdict.{treeVerdict}
-use Rattle.tables.specs.Outcome.{toldTree}
+use Rattle.upper_checks.specs.Outcome.{toldTree}
 use Rattle.tables.proofs.Sound.{tree-sound}
 use Rattle.reach.specs.Walk.{Walks}
 use Rattle.reach.proofs.WalkLaws.{tables-refused, tables-passed}

@@ -1,8 +1,8 @@
 -- `analysis::core::analyze` meets its contract: the upper pattern, then the counts over it, said of the night's links. Assumes nothing.
-use Prim.Native.Nat.{ℕ, _+_, _≤_, _<_}
+use Prim.Native.Nat.{ℕ, _≤_}
 use mathlib.Core.Bool.{Bool}
 use mathlib.Core.List.{List}
-use mathlib.Core.Path.{_≡_, refl, sym, ap, subst, _∙_}
+use mathlib.Core.Path.{_≡_, sym, subst, _∙_}
 use native.Mathlib.Omega.{arith}
 use borrow.Author.Needs.{needs}
 use lib.ListN.{length, take, drop}
@@ -15,7 +15,7 @@ use Rattle.graph.proofs.OrderLaws.{moved-permutes}
 use Rattle.elimination_tree.specs.Tree.{Pattern, Ascends, linkedUp}
 use Rattle.order.specs.Order.{sizesOf}
 use Rattle.symbolic.specs.Columns.{Sized}
-use Rattle.analysis.specs.Plan.{linkedOf, Analyzed, Ready}
+use Rattle.analysis.specs.Plan.{linkedOf, Analyzed}
 use Rattle.analysis.proofs.Laws.{sized}
 use Rattle.analysis.proofs.Same.{pattern-of, ascends-of, said}
 use Rattle.analysis.proofs.core.analyze.Statement.{statement}

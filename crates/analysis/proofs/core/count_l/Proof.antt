@@ -1,10 +1,9 @@
 -- `analysis::core::count_l` meets its contract: Liu's tree, the counts over it, their totals. Assumes nothing.
-use Prim.Native.Nat.{ℕ, _+_, _≤_, _<_}
-use mathlib.Core.List.{List}
-use mathlib.Core.Path.{_≡_, refl, sym, ap, subst, _∙_}
+use Prim.Native.Nat.{ℕ}
+use mathlib.Core.Path.{_≡_, sym, ap, subst, _∙_}
 use native.Mathlib.Omega.{arith}
 use borrow.Author.Needs.{needs}
-use lib.ListN.{length, getD}
+use lib.ListN.{length}
 use Rattle.elimination_tree.specs.Tree.{linkedUp}
 use Rattle.symbolic.specs.Columns.{Sized, Tree, columnsOf, numbersOf}
 use Rattle.buckets.specs.Buckets.{lengths}

@@ -1,17 +1,18 @@
 -- `analysis::core::permute` meets its contract: the moved order, its inverse, the upper pattern under it, and the dimensions. Assumes nothing.
-use Prim.Native.Nat.{ℕ, _+_, _≤_, _<_}
+use Prim.Native.Nat.{ℕ, _+_, _<_}
 use mathlib.Core.List.{List}
-use mathlib.Core.Path.{_≡_, refl, sym, ap, subst, _∙_}
+use mathlib.Core.Path.{_≡_, sym, ap, subst, _∙_}
 use native.Mathlib.Omega.{arith}
 use borrow.Author.Needs.{needs}
-use lib.ListN.{length, getD, take}
+use lib.ListN.{length, take}
 use Rattle.graph.specs.Links.{linkedIn}
 use Rattle.graph.specs.Order.{moved, Permutes}
 use Rattle.graph.proofs.OrderLaws.{moved-permutes}
 use Rattle.tables.specs.Sound.{PlanSound}
 use Rattle.order.specs.Order.{Inverse, sizesOf}
 use Rattle.pattern.specs.Moved.{Lower, UpperOf}
-use Rattle.analysis.proofs.Laws.{as-lower, order-below}
+use Rattle.order.proofs.Laws.{below-at}
+use Rattle.analysis.proofs.Laws.{as-lower}
 use Rattle.analysis.proofs.core.permute.Statement.{statement}
 use Rattle.analysis.proofs.core.permute.Tie as tie
 
@@ -54,7 +55,7 @@ sizes-requires c κs =
     let order = call .last .1 .1 .0 in
     let n = length (start .args .dims .now) in
     let p = order-permutes _ _ _ _ _ order (start .pre .0) (call .ensures) in
-    λ k h. order-below n order p k (subst (λ (m : ℕ). k < m) (p .entries) h)
+    λ k h. below-at n order p k (subst (λ (m : ℕ). k < m) (p .entries) h)
 
 returns : tie.Need-returns
 returns c =

@@ -1,10 +1,9 @@
 -- `analysis::core::store` meets its contract: the counts summed up are the starts, and the filling pass stores the rows. Assumes nothing.
-use Prim.Native.Nat.{ℕ, _+_, _≤_, _<_}
-use mathlib.Core.List.{List}
-use mathlib.Core.Path.{_≡_, refl, sym, ap, subst, _∙_}
+use Prim.Native.Nat.{ℕ, _+_}
+use mathlib.Core.Path.{sym, ap, subst, _∙_}
 use native.Mathlib.Omega.{arith}
 use borrow.Author.Needs.{needs}
-use lib.ListN.{length, getD}
+use lib.ListN.{length}
 use Rattle.elimination_tree.specs.Tree.{linkedUp}
 use Rattle.buckets.specs.Buckets.{Laid}
 use Rattle.symbolic.specs.Columns.{columnsOf}

@@ -11,9 +11,9 @@ use borrow.Author.Needs.{needs}
 use borrow.Author.Tests.{not-true, not-false}
 use Rattle.scalar.specs.Loop.{steps}
 use Rattle.scalar.proofs.Laws.{steps-next, steps-all, steps-stuck, kernels}
-use Rattle.dense_ldlt.specs.Pivots.{pivotsOf}
+use Rattle.dense_pivots.specs.Pivots.{pivotsOf}
 use Rattle.dense_ldlt.specs.Ldlt.{ldlt, ldltRow, going, finish}
-use Rattle.dense_ldlt.proofs.PivotLaws.{rank-grows, account-more, account-all}
+use Rattle.dense_pivots.proofs.PivotLaws.{rank-grows, account-more, account-all}
 use Rattle.dense_ldlt.proofs.RowLaws.{goes-on, stops}
 use Rattle.dense_ldlt.proofs.core.ldlt_decompose_core.Statement.{statement}
 use Rattle.dense_ldlt.proofs.core.ldlt_decompose_core.Tie as tie

@@ -5,7 +5,8 @@ use native.Mathlib.Omega.{arith}
 use mathlib.Core.Logic.{⊎-elim}
 use borrow.Author.Needs.{needs}
 use lib.ListN.{length, getD}
-use Rattle.order.proofs.Laws.{elem-at, group-test, Going, begins, room, takes, passes, ends}
+use Rattle.buckets.proofs.Lists.{elem-at}
+use Rattle.order.proofs.Laws.{group-test, Going, begins, room, takes, passes, ends}
 use Rattle.order.proofs.core.keep.Statement.{statement}
 use Rattle.order.proofs.core.keep.Tie as tie
 

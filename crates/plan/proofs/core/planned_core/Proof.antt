@@ -1,19 +1,16 @@
 -- `plan::core::planned_core` meets its contract: the need that the analysis shows, then the outputs; zeros in scratch either way. Assumes nothing.
-use Prim.Native.Nat.{ℕ, _+_, _≤_, _<_}
-use mathlib.Core.Bool.{Bool}
+use Prim.Native.Nat.{ℕ, _≤_, _<_}
 use mathlib.Core.List.{List, [], _∷_, _++_}
 use mathlib.Core.Path.{_≡_, refl, sym, ap, subst, _∙_}
 use native.Mathlib.Omega.{arith}
 use borrow.Author.Needs.{needs}
-use lib.Dec.{T}
-use lib.ListN.{length, take, drop, replicate}
+use lib.ListN.{length, take, drop}
 use lib.Seq.{length-take-le}
 use Rattle.graph.specs.Order.{Permutes}
 use Rattle.refusal.specs.Refusal.{accepted, shortBuffer}
-use Rattle.elimination_tree.specs.Tree.{linkedUp, parentsOf}
-use Rattle.analysis.specs.Plan.{storedOf, startsOf, rowsOf, Ready}
-use Rattle.plan.specs.Plan.{Night, Places, night, places, blocks, links, Exact, Plans}
-use Rattle.plan.proofs.Laws.{Zeros, row-table-short, planned, join-length, zero-of, store-asks, starts-told, rows-told}
+use Rattle.analysis.specs.Plan.{storedOf}
+use Rattle.plan.specs.Plan.{Night, Places, night, places, blocks, links}
+use Rattle.plan.proofs.Laws.{row-table-short, planned, join-length, zero-of, store-asks, starts-told, rows-told}
 use Rattle.plan.proofs.core.planned_core.Statement.{statement}
 use Rattle.plan.proofs.core.planned_core.Tie as tie
 

@@ -1,10 +1,9 @@
 -- `symbolic::core::add_up` meets its contract: two sums, one turn a column. Assumes nothing.
 use Prim.Native.Nat.{ℕ, _+_, _-_, _*_}
-use mathlib.Core.Path.{_≡_, refl, sym, ap₂, subst, _∙_}
+use mathlib.Core.Path.{sym, subst}
 use native.Mathlib.Omega.{arith}
 use borrow.Author.Needs.{needs}
 use lib.ListN.{length, getD}
-use Rattle.graph.specs.Count.{productsOf}
 use Rattle.symbolic.proofs.Numbers.{Totalled, total-begins, total-turns, total-ends, products-le, half-le}
 use Rattle.symbolic.proofs.core.add_up.Statement.{statement}
 use Rattle.symbolic.proofs.core.add_up.Tie as tie

@@ -1,0 +1,2 @@
+-- What the contracts of `columns` cite.
+pub mod Least

@@ -1,0 +1,2 @@
+-- What belongs to no one function: the laws of the account.
+pub mod PivotLaws

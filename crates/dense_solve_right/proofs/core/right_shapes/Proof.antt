@@ -1,0 +1,14 @@
+-- `dense_solve_right::core::right_shapes` meets its contract: one check after the other. Assumes nothing.
+use borrow.Author.Needs.{needs}
+use Rattle.dense_solve_right.specs.SolveRight.{rightVerdict}
+use Rattle.dense_solve_right.proofs.core.right_shapes.Statement.{statement}
+use Rattle.dense_solve_right.proofs.core.right_shapes.Tie as tie
+
+returns : tie.Need-returns
+unfolding rightVerdict
+returns c = rw (c .area3 .ensures, c .before .area2 .ensures, c .before .before .area .ensures, c .before .before .before .size2 .ensures, c .before .before .before .before .size .ensures, c .before .before .before .before .before .unchecked .ensures)
+
+pub right-shapes-spec : {M : Type 1} → statement M
+right-shapes-spec =
+    tie.close
+    (tie.spec (λ c κs. search needs) (λ c κs. search needs) (λ c κs. search needs) (λ c κs. search needs) (λ c κs. search needs) (λ c κs. search needs) returns)

@@ -1,0 +1,2 @@
+-- What the contracts of `upper_checks` cite.
+pub mod Outcome
