@@ -3,3 +3,4 @@ pub mod Walks  -- the walk over stamps is the theory's walk
 pub mod Columns  -- the passes make the theory's columns
 pub mod Passes  -- the invariants of the two passes
 pub mod Numbers  -- the sums of the counting pass
+pub mod Davis  -- the public walk over the tree's parents finds Davis's reach

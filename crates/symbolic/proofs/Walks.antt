@@ -6,6 +6,7 @@ use mathlib.Core.Logic.{_⊎_, inl, inr, ⊎-elim}
 use mathlib.Core.Bool.{Bool, true, false, _||_}
 use mathlib.Core.List.{List, [], _∷_, _++_}
 use mathlib.Core.Option.{Option, none, some}
+use native.Mathlib.Nat.{le-refl}
 use native.Mathlib.Omega.{arith}
 use borrow.Author.Tests.{eq-eqb, ne-eqb, eqb-true}
 use lib.Dec.{T, eqb, ltb, ltb→lt}
@@ -29,10 +30,11 @@ use Rattle.elimination_tree.proofs.Links.{linked-symm, upper-links, parents-len
 abbrev pub parentIn : List ℕ → ℕ → Option ℕ
 parentIn parent k = decode (getD parent k 0)
 
-module _ (n m j : ℕ) where
+-- no stamp is above `cap`
+module _ (n m j cap : ℕ) (top : m ≤ cap) where
   pub record Marked (stamps found : List ℕ) : Type 0 where
     pub count : length stamps ≡ n
-    pub low : (i : ℕ) → i < n → getD stamps i 0 ≤ m
+    pub low : (i : ℕ) → i < n → getD stamps i 0 ≤ cap
     pub marks : (i : ℕ) → i < n → eqb (getD stamps i 0) m ≡ (eqb i j || elem i found)
 
   or-first : (a b c : Bool) → b ≡ true → true ≡ (a || (b || c))
@@ -148,44 +150,61 @@ module _ (starts rows : List ℕ) (n : ℕ) (few : n ≤ 4096) (inc : Ascends n 
       rule : (k : ℕ) → k < n → (getD (parentsOf links n) k 0 ≡ root) ⊎ ((k < getD (parentsOf links n) k 0) × (getD (parentsOf links n) k 0 < length (parentsOf links n)))
       rule k h = subst (λ (x : ℕ). (getD (parentsOf links n) k 0 ≡ root) ⊎ ((k < getD (parentsOf links n) k 0) × (getD (parentsOf links n) k 0 < x))) (sym (parents-length links n symm)) (parents-rule links n symm few k h)
 
-  module _ (parent : List ℕ) (liu : parent ≡ parentsOf links n) (j : ℕ) (h : j < n) (stamps : List ℕ) (count : length stamps ≡ n) (below : Below j stamps) where
-    -- at the start j alone bears the new mark
-    start : Marked n (j + 1) j (set stamps j (j + 1)) []
-    unfolding Below
+  -- the walk with a mark m that no stamp bears
+  module _ (parent : List ℕ) (liu : parent ≡ parentsOf links n) (j : ℕ) (h : j < n) (m cap : ℕ) (top : m ≤ cap) (stamps : List ℕ) (count : length stamps ≡ n)
+      (low : (i : ℕ) → i < n → getD stamps i 0 ≤ cap) (fresh : (i : ℕ) → i < n → getD stamps i 0 ≡ m → ⊥) where
+    -- at the start j alone bears the mark
+    start : Marked n m j cap top (set stamps j m) []
     start = record {
-      count = length-set stamps j (j + 1) ∙ count;
-      low = λ i b. ⊎-elim (λ e. let v = at i e in omega arith) (λ e. let v = other i e in let l = below i (subst (λ (x : ℕ). i < x) (sym count) b) in omega arith) (same? i j);
+      count = length-set stamps j m ∙ count;
+      low = λ i b. ⊎-elim (λ e. let v = at i e in omega arith) (λ e. let v = other i e in let l = low i b in omega arith) (same? i j);
       marks = λ i b. ⊎-elim
-          (λ e. eq-eqb (getD (set stamps j (j + 1)) i 0) (j + 1) (at i e) ∙ ap (λ (x : Bool). x || false) (sym (eq-eqb i j e)))
-          (λ e. let v = other i e in let l = below i (subst (λ (x : ℕ). i < x) (sym count) b) in
-          ne-eqb (getD (set stamps j (j + 1)) i 0) (j + 1) (λ z. omega arith) ∙ ap (λ (x : Bool). x || false) (sym (ne-eqb i j e)))
+          (λ e. eq-eqb (getD (set stamps j m) i 0) m (at i e) ∙ ap (λ (x : Bool). x || false) (sym (eq-eqb i j e)))
+          (λ e. ne-eqb (getD (set stamps j m) i 0) m (λ z. fresh i b (sym (other i e) ∙ z)) ∙ ap (λ (x : Bool). x || false) (sym (ne-eqb i j e)))
           (same? i j);
     }
       where
-        at : (i : ℕ) → i ≡ j → getD (set stamps j (j + 1)) i 0 ≡ j + 1
-        at i e = ap (λ (x : ℕ). getD (set stamps j (j + 1)) x 0) e ∙ getD-set-same stamps j (j + 1) 0 (subst (λ (x : ℕ). j < x) (sym count) h)
+        at : (i : ℕ) → i ≡ j → getD (set stamps j m) i 0 ≡ m
+        at i e = ap (λ (x : ℕ). getD (set stamps j m) x 0) e ∙ getD-set-same stamps j m 0 (subst (λ (x : ℕ). j < x) (sym count) h)
 
-        other : (i : ℕ) → (i ≡ j → ⊥) → getD (set stamps j (j + 1)) i 0 ≡ getD stamps i 0
-        other i e = getD-set-other stamps j i (j + 1) 0 e
+        other : (i : ℕ) → (i ≡ j → ⊥) → getD (set stamps j m) i 0 ≡ getD stamps i 0
+        other i e = getD-set-other stamps j i m 0 e
 
-    size : length parent ≡ n
+    pub size : length parent ≡ n
     size = ap length liu ∙ parents-length links n symm
 
-    whole : Same n (j + 1) j (code.reached parent (j + 1) j (slice (getD starts j 0) (getD starts (j + 1) 0) rows) (set stamps j (j + 1))) (climbs (parentIn parent) j n (upper starts rows j) [])
-    whole = scan-same n (j + 1) j parent size (tree-rule parent liu) (slice (getD starts j 0) (getD starts (j + 1) 0) rows) (walk.st (set stamps j (j + 1)) []) h start
+    walked : Same n m j cap top (code.reached parent m j (slice (getD starts j 0) (getD starts (j + 1) 0) rows) (set stamps j m)) (climbs (parentIn parent) j n (upper starts rows j) [])
+    walked = scan-same n m j cap top parent size (tree-rule parent liu) (slice (getD starts j 0) (getD starts (j + 1) 0) rows) (walk.st (set stamps j m) []) h start
 
     -- what is found is the theory's reach
-    pub walk-reach : code.reached parent (j + 1) j (slice (getD starts j 0) (getD starts (j + 1) 0) rows) (set stamps j (j + 1)) .found ≡ reach links n (treeParent links n) j
+    pub walk-reach : code.reached parent m j (slice (getD starts j 0) (getD starts (j + 1) 0) rows) (set stamps j m) .found ≡ reach links n (treeParent links n) j
     unfolding reach Ascends
     walk-reach =
-        whole .lists ∙ ap (λ (l : List ℕ). climbs (parentIn parent) j n l []) (upper-links starts rows j (inc j h))
+        walked .lists ∙ ap (λ (l : List ℕ). climbs (parentIn parent) j n l []) (upper-links starts rows j (inc j h))
         ∙ sym (reach-same links n j (treeParent links n) h (λ k b. tree-least links n symm k (omega arith)) symm (parentIn parent)
         (λ k b. sym (ap (λ (l : List ℕ). decode (getD l k 0)) liu ∙ parents-back links n symm few k (omega arith))))
 
-    -- and the stamps are ready for the next column
-    pub walk-below : Below (j + 1) (code.reached parent (j + 1) j (slice (getD starts j 0) (getD starts (j + 1) 0) rows) (set stamps j (j + 1)) .stamps)
+    -- and no stamp is above the cap
+    pub walk-low : (i : ℕ) → i < length (code.reached parent m j (slice (getD starts j 0) (getD starts (j + 1) 0) rows) (set stamps j m) .stamps) → getD (code.reached parent m j (slice (getD starts j 0) (getD starts (j + 1) 0) rows) (set stamps j m) .stamps) i 0 ≤ cap
+    walk-low = λ i b. walked .marked .low i (subst (λ (x : ℕ). i < x) (walked .marked .count) b)
+
+  -- the walk of the plan, whose mark is j + 1
+  module _ (parent : List ℕ) (liu : parent ≡ parentsOf links n) (j : ℕ) (h : j < n) (stamps : List ℕ) (count : length stamps ≡ n) (below : Below j stamps) where
+    low-next : (i : ℕ) → i < n → getD stamps i 0 ≤ j + 1
     unfolding Below
-    walk-below = λ i b. whole .marked .low i (subst (λ (x : ℕ). i < x) (whole .marked .count) b)
+    low-next i b = let l = below i (subst (λ (x : ℕ). i < x) (sym count) b) in omega arith
+
+    fresh-next : (i : ℕ) → i < n → getD stamps i 0 ≡ j + 1 → ⊥
+    unfolding Below
+    fresh-next i b e = let l = below i (subst (λ (x : ℕ). i < x) (sym count) b) in absurd (omega arith)
+
+    next-reach : code.reached parent (j + 1) j (slice (getD starts j 0) (getD starts (j + 1) 0) rows) (set stamps j (j + 1)) .found ≡ reach links n (treeParent links n) j
+    next-reach = walk-reach parent liu j h (j + 1) (j + 1) (le-refl (j + 1)) stamps count low-next fresh-next
+
+    -- the stamps are ready for the next column
+    next-below : Below (j + 1) (code.reached parent (j + 1) j (slice (getD starts j 0) (getD starts (j + 1) 0) rows) (set stamps j (j + 1)) .stamps)
+    unfolding Below
+    next-below = walk-low parent liu j h (j + 1) (j + 1) (le-refl (j + 1)) stamps count low-next fresh-next
 
     -- what the scan says, in the theory's terms: `part` is the column as it is lent
     module _ (part : List ℕ) (lent : part ≡ slice (getD starts j 0) (getD starts (j + 1) 0) rows) (out out′ stamps′ : List ℕ) (top : ℕ) (places : length out ≡ n)
@@ -193,15 +212,15 @@ module _ (starts rows : List ℕ) (n : ℕ) (few : n ≤ 4096) (inc : Ascends n 
         (listed : out′ ≡ take top out ++ code.reached parent (j + 1) j part (set stamps j (j + 1)) .found)
         (stamped : stamps′ ≡ code.reached parent (j + 1) j part (set stamps j (j + 1)) .stamps) where
       ends-within : top ≤ n
-      ends-within = omega (arith, size)
+      ends-within = omega (arith, size parent liu j h (j + 1) (j + 1) (le-refl (j + 1)) stamps count low-next fresh-next)
 
       ends-found : drop top out′ ≡ reach links n (treeParent links n) j
       ends-found =
           ap (drop top) listed ∙ drop-at (take top out) (code.reached parent (j + 1) j part (set stamps j (j + 1)) .found) top (length-take-le top out (omega (arith, ends-within)))
-          ∙ ap (λ (l : List ℕ). code.reached parent (j + 1) j l (set stamps j (j + 1)) .found) lent ∙ walk-reach
+          ∙ ap (λ (l : List ℕ). code.reached parent (j + 1) j l (set stamps j (j + 1)) .found) lent ∙ next-reach
 
       ends-below : Below (j + 1) stamps′
-      ends-below = subst (Below (j + 1)) (sym (stamped ∙ ap (λ (l : List ℕ). code.reached parent (j + 1) j l (set stamps j (j + 1)) .stamps) lent)) walk-below
+      ends-below = subst (Below (j + 1)) (sym (stamped ∙ ap (λ (l : List ℕ). code.reached parent (j + 1) j l (set stamps j (j + 1)) .stamps) lent)) next-below
 
       pub walk-ends : ((top ≤ n) × (drop top out′ ≡ reach links n (treeParent links n) j)) × Below (j + 1) stamps′
       walk-ends = ((ends-within, ends-found), ends-below)
