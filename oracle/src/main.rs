@@ -1,5 +1,8 @@
-//! Runs the source on every case and writes the list and its table: `answers LIST TABLE`.
+//! Runs the source on every case and writes the two lists with their tables: `answers LIST TABLE PLANS TABLE`.
 mod cases;
+mod plan_cases;
+mod plan_list;
+mod plans;
 mod run;
 mod values;
 
@@ -37,8 +40,8 @@ fn main() {
         exit(1);
     }
     let to: Vec<String> = std::env::args().skip(1).collect();
-    let [list, table] = &to[..] else {
-        eprintln!("answers LIST TABLE");
+    let [list, table, plans, plans_table] = &to[..] else {
+        eprintln!("answers LIST TABLE PLANS TABLE");
         exit(2);
     };
     let mut bytes: Vec<u8> = vec![];
@@ -77,4 +80,7 @@ fn main() {
     .unwrap();
     std::fs::write(list, bytes).expect("the list is written");
     std::fs::write(table, text).expect("the table is written");
+    let (bytes, text) = plan_list::list();
+    std::fs::write(plans, bytes).expect("the list of plans is written");
+    std::fs::write(plans_table, text).expect("its table is written");
 }

@@ -99,7 +99,7 @@ fn wide(x: u8) -> u64
 }
 
 // Bits as a float. Every NaN's bits are the one NaN.
-fn number(bits: u64) -> f64
+pub fn number(bits: u64) -> f64
     ensures { λ r. ⌜ r ≡ ofBits binary64 bits ⌝ }
 {
     if bits % 0x8000_0000_0000_0000 > 0x7ff0_0000_0000_0000 {

@@ -39,6 +39,21 @@ pub struct DVectorViewMut<'a, T> {
     numbers: &'a mut [T],
 }
 
+// A row of a matrix.
+#[derive(Clone, Copy, Debug)]
+pub struct RowView<'a, T> {
+    numbers: &'a [T],
+    nrows: usize,
+}
+
+impl<T> Index<usize> for RowView<'_, T> {
+    type Output = T;
+    #[inline]
+    fn index(&self, j: usize) -> &T {
+        &self.numbers[j * self.nrows]
+    }
+}
+
 fn no_arithmetic() -> ! {
     panic!("this stand-in for nalgebra stores numbers and does no arithmetic")
 }
@@ -73,6 +88,11 @@ macro_rules! matrix {
             pub fn column(&self, j: usize) -> DVectorView<'_, T> {
                 assert!(j < self.ncols, "matrix column out of bounds");
                 DVectorView { numbers: &self.numbers[j * self.nrows..(j + 1) * self.nrows] }
+            }
+            #[inline]
+            pub fn row(&self, i: usize) -> RowView<'_, T> {
+                assert!(i < self.nrows, "matrix row out of bounds");
+                RowView { numbers: &self.numbers[i..], nrows: self.nrows }
             }
             #[inline]
             pub fn as_view(&self) -> DMatrixView<'_, T> {
@@ -116,6 +136,16 @@ macro_rules! matrix_mut {
 }
 matrix_mut!([T] DMatrix<T>);
 matrix_mut!(['a, T] DMatrixViewMut<'a, T>);
+
+impl DMatrix<f64> {
+    pub fn zeros(nrows: usize, ncols: usize) -> Self {
+        Self { numbers: vec![0.0; nrows * ncols], nrows, ncols }
+    }
+    pub fn from_column_slice(nrows: usize, ncols: usize, numbers: &[f64]) -> Self {
+        assert_eq!(numbers.len(), nrows * ncols);
+        Self { numbers: numbers.to_vec(), nrows, ncols }
+    }
+}
 
 impl<'a, T> DMatrixView<'a, T> {
     pub fn from_slice(numbers: &'a [T], nrows: usize, ncols: usize) -> Self {
