@@ -1,6 +1,4 @@
-// The thirteen kernels of kernel.rs under the source's names, and a block shown as its numbers with its height and width.
-pub mod view;
-
+// The thirteen kernels of kernel.rs under the source's names.
 pub use kernel_diag::diag_matsolve_inplaced;
 pub use kernel_diag::diag_solve_inplaced;
 pub use kernel_diag_right::diag_right_matsolve_inplace;

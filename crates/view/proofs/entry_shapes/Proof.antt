@@ -1,8 +1,8 @@
--- `kernel::view::entry_shapes` meets its contract: one check after the other. Assumes nothing.
+-- `view::entry_shapes` meets its contract: one check after the other. Assumes nothing.
 use borrow.Author.Needs.{needs}
-use Rattle.kernel.specs.View.{entryVerdict}
-use Rattle.kernel.proofs.view.entry_shapes.Statement.{statement}
-use Rattle.kernel.proofs.view.entry_shapes.Tie as tie
+use Rattle.view.specs.View.{entryVerdict}
+use Rattle.view.proofs.entry_shapes.Statement.{statement}
+use Rattle.view.proofs.entry_shapes.Tie as tie
 
 returns : tie.Need-returns
 unfolding entryVerdict

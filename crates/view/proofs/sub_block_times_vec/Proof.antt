@@ -1,4 +1,4 @@
--- `kernel::view::sub_block_times_vec` meets its contract: a walk of its MIR, where the view that `block` makes is held in a local and passed on, and what `sub_mat_plus_vec_inplace` promises of it is the promise. Assumes nothing.
+-- `view::sub_block_times_vec` meets its contract: a walk of its MIR, where the view that `block` makes is held in a local and passed on, and what `sub_mat_plus_vec_inplace` promises of it is the promise. Assumes nothing.
 use mathlib.Core.Path.{_≡_, refl, subst}
 use Prim.Native.Nat.{ℕ, _<_, _^_}
 use mathlib.Core.List.{List, [], _∷_}
@@ -43,22 +43,22 @@ use Rattle.refusal.specs.declared.Shaped.{Shaped}
 use Rattle.refusal.proofs.Shaped as S
 use Rattle.refusal.proofs.Shaped.Laws as S′
 use Rattle.kernel_vector.specs.Vector.{subMatPlusVec, vectorVerdict}
-use Rattle.kernel.specs.declared.view.BlockView.{BlockView}
-use Rattle.kernel.proofs.view.BlockView as T
-use Rattle.kernel.proofs.view.BlockView.Laws as T′
-use Rattle.kernel.proofs.Held.{α}
-use Rattle.kernel.proofs.view.block as block
-use Rattle.kernel.proofs.view.block.Symbol as block-def
-use Rattle.kernel.proofs.view.block.Symbol.{name as #kernel·view·block}
-use Rattle.kernel.proofs.view.block.Met as block-thm
-use Rattle.kernel.proofs.view.sub_mat_plus_vec_inplace as minus
-use Rattle.kernel.proofs.view.sub_mat_plus_vec_inplace.Symbol as minus-def
-use Rattle.kernel.proofs.view.sub_mat_plus_vec_inplace.Symbol.{name as #kernel·view·sub-mat-plus-vec-inplace}
-use Rattle.kernel.proofs.view.sub_mat_plus_vec_inplace.Met as minus-thm
-use Rattle.kernel.proofs.view.sub_block_times_vec.Key.{name as #kernel·view·sub-block-times-vec}
-use Rattle.kernel.proofs.view.sub_block_times_vec as f
-use Rattle.kernel.proofs.view.sub_block_times_vec.Statement as stated
-use Rattle.kernel.proofs.view.sub_block_times_vec.Code as code
+use Rattle.view.specs.declared.BlockView.{BlockView}
+use Rattle.view.proofs.BlockView as T
+use Rattle.view.proofs.BlockView.Laws as T′
+use Rattle.view.proofs.Held.{α}
+use Rattle.view.proofs.block as block
+use Rattle.view.proofs.block.Symbol as block-def
+use Rattle.view.proofs.block.Symbol.{name as #view·block}
+use Rattle.view.proofs.block.Met as block-thm
+use Rattle.view.proofs.sub_mat_plus_vec_inplace as minus
+use Rattle.view.proofs.sub_mat_plus_vec_inplace.Symbol as minus-def
+use Rattle.view.proofs.sub_mat_plus_vec_inplace.Symbol.{name as #view·sub-mat-plus-vec-inplace}
+use Rattle.view.proofs.sub_mat_plus_vec_inplace.Met as minus-thm
+use Rattle.view.proofs.sub_block_times_vec.Key.{name as #view·sub-block-times-vec}
+use Rattle.view.proofs.sub_block_times_vec as f
+use Rattle.view.proofs.sub_block_times_vec.Statement as stated
+use Rattle.view.proofs.sub_block_times_vec.Code as code
 
 abbrev stayed : Stays (f.ended .signature .params) (f.ended .kept)
 stayed = (stay-none-slice (0 ∷ []) tt (plain (λ _. f64)) yes, (stay-none (λ _. usize) yes, (stay-none (λ _. usize) yes, (stay-none-slice (1 ∷ []) tt (plain (λ _. f64)) yes, (gave-slice (2 ∷ []) tt (plain (λ _. f64)), tt)))))
@@ -172,7 +172,7 @@ module _ {M : Type 1} (𝓤 : URA M) (H : Heap 𝓤) (A : Atoms 𝓤) (W : Given
       nothing ! $ move ! (2 ∷ 0 ∷ []) $ fjoin ! $ move ! (2 ∷ []) $ split ! $ move ! (0 ∷ 2 ∷ []) $ fjoin ! $
       owned ! usize (Is usize) (uint-makes 𝓤 H A W w64) w _ (refl, w-fits) $ fjoin ! $ owned ! usize (Is usize) (uint-makes 𝓤 H A W w64) h _ (refl, h-fits) $ fjoin ! $ move ! (1 ∷ 0 ∷ []) $ fjoin ! $ frame ! $ done !
 
-  module _ (C : Calls 𝓤 H) (Λ : Loops 𝓤 H) (fm : FmC 𝓤 H (W .laws) C) (known-block : Triple 𝓤 (C #kernel·view·block) (Block 𝓤 H A mem run)) (known-minus : Triple 𝓤 (C #kernel·view·sub-mat-plus-vec-inplace) (Minus 𝓤 H A mem run)) where
+  module _ (C : Calls 𝓤 H) (Λ : Loops 𝓤 H) (fm : FmC 𝓤 H (W .laws) C) (known-block : Triple 𝓤 (C #view·block) (Block 𝓤 H A mem run)) (known-minus : Triple 𝓤 (C #view·sub-mat-plus-vec-inplace) (Minus 𝓤 H A mem run)) where
     walk : Is (ShrSlice (named 0) κ f64) n (sn ∷ []) → Is (ShrSlice (named 1) κ′ f64) b (sb ∷ []) → Is (MutSlice (named 2) κ″ f64) y (sy ∷ [])
         → ent 𝓤 (onEntry 𝓤 H A f.signature κs (q, (q′, (q″, tt))) (n, (h, (w, (b, (y, tt))))) at) (WpFn 𝓤 H C Λ code.function (sn ∷ vint w64 h ∷ vint w64 w ∷ sb ∷ sy ∷ []) Post)
     walk isn isb isy =
@@ -206,7 +206,7 @@ module _ {M : Type 1} (𝓤 : URA M) (H : Heap 𝓤) (A : Atoms 𝓤) (W : Given
         keep ! (0 ∷ 1 ∷ 2 ∷ 4 ∷ []) $ by ! (exits r u′ (zs .1 .1 .0) (carried v r (zs .1 .1 .0) made e) l))))))))))))))))))))
 
 module _ {M : Type 1} (𝓤 : URA M) (H : Heap 𝓤) (A : Atoms 𝓤) (W : Given 𝓤 H A) (mem : Memory → SProp 𝓤) (run : Routine → Fun 𝓤) where
-  walks : (C : Calls 𝓤 H) (Λ : Loops 𝓤 H) → FmC 𝓤 H (W .laws) C → Triple 𝓤 (C #kernel·view·block) (Block 𝓤 H A mem run) → Triple 𝓤 (C #kernel·view·sub-mat-plus-vec-inplace) (Minus 𝓤 H A mem run)
+  walks : (C : Calls 𝓤 H) (Λ : Loops 𝓤 H) → FmC 𝓤 H (W .laws) C → Triple 𝓤 (C #view·block) (Block 𝓤 H A mem run) → Triple 𝓤 (C #view·sub-mat-plus-vec-inplace) (Minus 𝓤 H A mem run)
       → Walks 𝓤 H A f.ended stayed (WpFn 𝓤 H C Λ code.function) (f.clauses 𝓤 H A mem run)
   walks C Λ fm known-block known-minus = walked 𝓤 H A f.ended stayed (f.clauses 𝓤 H A mem run) (WpFn 𝓤 H C Λ code.function)
       (λ κs. (slice-vals, (uint-vals w64, (uint-vals w64, (slice-vals, (slice-vals, tt))))))
@@ -215,7 +215,7 @@ module _ {M : Type 1} (𝓤 : URA M) (H : Heap 𝓤) (A : Atoms 𝓤) (W : Given
       (walk 𝓤 H A W mem run (κs .0) (κs .1 .0) (κs .1 .1 .0) (qs .0) (qs .1 .0) (qs .1 .1 .0) (a .0) (a .1 .0) (a .1 .1 .0) (are .1 .0 .1) (are .1 .1 .0 .1) (a .1 .1 .1 .0) (a .1 .1 .1 .1 .0 .ptr .0) (a .1 .1 .1 .1 .0 .ptr .1) (a .1 .1 .1 .1 .0 .name) (a .1 .1 .1 .1 .0 .now) C Λ fm known-block known-minus (are .0) (are .1 .1 .1 .0) (are .1 .1 .1 .1 .0)))
 
 meets : {M : Type 1} (𝓤 : URA M) (H : Heap 𝓤) (A : Atoms 𝓤) (W : Given 𝓤 H A) (mem : Memory → SProp 𝓤) (run : Routine → Fun 𝓤) (𝓣 : Tables 𝓤 H)
-    → Triple 𝓤 (𝓣 .C #kernel·view·block) (Block 𝓤 H A mem run) → Triple 𝓤 (𝓣 .C #kernel·view·sub-mat-plus-vec-inplace) (Minus 𝓤 H A mem run)
+    → Triple 𝓤 (𝓣 .C #view·block) (Block 𝓤 H A mem run) → Triple 𝓤 (𝓣 .C #view·sub-mat-plus-vec-inplace) (Minus 𝓤 H A mem run)
     → Meets 𝓤 H A f.signature (WpFn 𝓤 H (𝓣 .C) (𝓣 .Λ) code.function) (f.spec 𝓤 H A mem run)
 meets 𝓤 H A W mem run 𝓣 known-block known-minus =
     walk-meets 𝓤 H A f.ended stayed W (goes-none-slice 𝓤 H A W 3 (0 ∷ []) tt (plain (λ _. f64)) yes, (goes-none 𝓤 H A W 3 (λ _. usize) yes (λ κs x f. refl), (goes-none 𝓤 H A W 3 (λ _. usize) yes (λ κs x f. refl), (goes-none-slice 𝓤 H A W 3 (1 ∷ []) tt (plain (λ _. f64)) yes, (goes-gave-slice 𝓤 H A W 3 2 tt (plain (λ _. f64)), tt))))) (f.clauses 𝓤 H A mem run)
@@ -225,7 +225,7 @@ pub sub-block-times-vec-spec : {M : Type 1} → stated.statement M
 unfolding code.routine tablesOf
 sub-block-times-vec-spec 𝓤 H 𝓜 𝓖 𝓡 =
     entered 𝓤 H (tripleOf 𝓤 H (𝓖 .A) f.signature (f.spec 𝓤 H (𝓖 .A) (𝓜 .mem) (𝓡 .run)))
-    (tables 𝓤 H 𝓜 𝓡 code.env .C) (tables 𝓤 H 𝓜 𝓡 code.env .Λ) #kernel·view·sub-block-times-vec code.function (code.unfolded 𝓤 H 𝓜 𝓡)
+    (tables 𝓤 H 𝓜 𝓡 code.env .C) (tables 𝓤 H 𝓜 𝓡 code.env .Λ) #view·sub-block-times-vec code.function (code.unfolded 𝓤 H 𝓜 𝓡)
     (meets 𝓤 H (𝓖 .A) (givenOf 𝓤 H 𝓜 𝓖) (𝓜 .mem) (𝓡 .run) (tablesOf 𝓤 H 𝓜 (tables 𝓤 H 𝓜 𝓡 code.env))
-    (cited 𝓤 H (Block 𝓤 H (𝓖 .A) (𝓜 .mem) (𝓡 .run)) 𝓜 𝓡 code.env #kernel·view·block block-def.routine code.calls-kernel·view·block (block-thm.met 𝓤 H 𝓜 𝓖 𝓡))
-    (cited 𝓤 H (Minus 𝓤 H (𝓖 .A) (𝓜 .mem) (𝓡 .run)) 𝓜 𝓡 code.env #kernel·view·sub-mat-plus-vec-inplace minus-def.routine code.calls-kernel·view·sub-mat-plus-vec-inplace (minus-thm.met 𝓤 H 𝓜 𝓖 𝓡)))
+    (cited 𝓤 H (Block 𝓤 H (𝓖 .A) (𝓜 .mem) (𝓡 .run)) 𝓜 𝓡 code.env #view·block block-def.routine code.calls-view·block (block-thm.met 𝓤 H 𝓜 𝓖 𝓡))
+    (cited 𝓤 H (Minus 𝓤 H (𝓖 .A) (𝓜 .mem) (𝓡 .run)) 𝓜 𝓡 code.env #view·sub-mat-plus-vec-inplace minus-def.routine code.calls-view·sub-mat-plus-vec-inplace (minus-thm.met 𝓤 H 𝓜 𝓖 𝓡)))

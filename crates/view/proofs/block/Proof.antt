@@ -1,4 +1,4 @@
--- `kernel::view::block` meets its contract: a walk of its MIR, where what the fields own together is what the view owns. Assumes nothing.
+-- `view::block` meets its contract: a walk of its MIR, where what the fields own together is what the view owns. Assumes nothing.
 use mathlib.Core.Path.{refl}
 use Prim.Native.Nat.{ℕ, _<_, _^_}
 use mathlib.Core.List.{List, [], _∷_}
@@ -33,14 +33,14 @@ use denote.Triple.Spec.{Meets, tripleOf}
 use denote.Triple.Table.{entered}
 use denote.Triple.Walked.{says, Stays, stay-none, stay-none-slice, walkOf, goes-none, goes-none-slice, Walks, ends-at, walked, walk-meets}
 use denote.Exit.{yes}
-use Rattle.kernel.specs.declared.view.BlockView.{BlockView}
-use Rattle.kernel.proofs.view.BlockView as T
-use Rattle.kernel.proofs.view.BlockView.Laws as T′
-use Rattle.kernel.proofs.Held.{α, mach}
-use Rattle.kernel.proofs.view.block.Key.{name as #kernel·view·block}
-use Rattle.kernel.proofs.view.block as f
-use Rattle.kernel.proofs.view.block.Statement as stated
-use Rattle.kernel.proofs.view.block.Code as code
+use Rattle.view.specs.declared.BlockView.{BlockView}
+use Rattle.view.proofs.BlockView as T
+use Rattle.view.proofs.BlockView.Laws as T′
+use Rattle.view.proofs.Held.{α, mach}
+use Rattle.view.proofs.block.Key.{name as #view·block}
+use Rattle.view.proofs.block as f
+use Rattle.view.proofs.block.Statement as stated
+use Rattle.view.proofs.block.Code as code
 
 abbrev stayed : Stays (f.ended .signature .params) (f.ended .kept)
 stayed = (stay-none-slice (0 ∷ []) tt (plain (λ _. f64)) yes, (stay-none (λ _. usize) yes, (stay-none (λ _. usize) yes, tt)))
@@ -96,5 +96,5 @@ pub block-spec : {M : Type 1} → stated.statement M
 unfolding code.routine tablesOf
 block-spec 𝓤 H 𝓜 𝓖 𝓡 =
     entered 𝓤 H (tripleOf 𝓤 H (𝓖 .A) f.signature (f.spec 𝓤 H (𝓖 .A) (𝓜 .mem) (𝓡 .run)))
-    (tables 𝓤 H 𝓜 𝓡 code.env .C) (tables 𝓤 H 𝓜 𝓡 code.env .Λ) #kernel·view·block code.function (code.unfolded 𝓤 H 𝓜 𝓡)
+    (tables 𝓤 H 𝓜 𝓡 code.env .C) (tables 𝓤 H 𝓜 𝓡 code.env .Λ) #view·block code.function (code.unfolded 𝓤 H 𝓜 𝓡)
     (meets 𝓤 H (𝓖 .A) (givenOf 𝓤 H 𝓜 𝓖) (𝓜 .mem) (𝓡 .run) (tablesOf 𝓤 H 𝓜 (tables 𝓤 H 𝓜 𝓡 code.env)))

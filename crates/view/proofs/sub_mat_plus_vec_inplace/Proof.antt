@@ -1,4 +1,4 @@
--- `kernel::view::sub_mat_plus_vec_inplace` meets its contract: a walk of its MIR, where the view and b, which are Copy, stay for the exit, y is given to `minus_product` for good, and what that one says of y's last list is the promise. Assumes nothing.
+-- `view::sub_mat_plus_vec_inplace` meets its contract: a walk of its MIR, where the view and b, which are Copy, stay for the exit, y is given to `minus_product` for good, and what that one says of y's last list is the promise. Assumes nothing.
 use mathlib.Core.Path.{_≡_, refl}
 use Prim.Native.Nat.{ℕ, _<_, _^_}
 use mathlib.Core.List.{List, [], _∷_}
@@ -44,18 +44,18 @@ use Rattle.refusal.specs.declared.Shaped.{Shaped}
 use Rattle.refusal.proofs.Shaped as S
 use Rattle.refusal.proofs.Shaped.Laws as S′
 use Rattle.kernel_vector.specs.Vector.{subMatPlusVec, vectorVerdict}
-use Rattle.kernel.specs.declared.view.BlockView.{BlockView}
-use Rattle.kernel.proofs.view.BlockView as T
-use Rattle.kernel.proofs.view.BlockView.Laws as T′
-use Rattle.kernel.proofs.Held.{mach, slice, Own, Numbers, shares, typed}
-use Rattle.kernel.proofs.view.minus_product as minus
-use Rattle.kernel.proofs.view.minus_product.Symbol as minus-def
-use Rattle.kernel.proofs.view.minus_product.Symbol.{name as #kernel·view·minus-product}
-use Rattle.kernel.proofs.view.minus_product.Met as minus-thm
-use Rattle.kernel.proofs.view.sub_mat_plus_vec_inplace.Key.{name as #kernel·view·sub-mat-plus-vec-inplace}
-use Rattle.kernel.proofs.view.sub_mat_plus_vec_inplace as f
-use Rattle.kernel.proofs.view.sub_mat_plus_vec_inplace.Statement as stated
-use Rattle.kernel.proofs.view.sub_mat_plus_vec_inplace.Code as code
+use Rattle.view.specs.declared.BlockView.{BlockView}
+use Rattle.view.proofs.BlockView as T
+use Rattle.view.proofs.BlockView.Laws as T′
+use Rattle.view.proofs.Held.{mach, slice, Own, Numbers, shares, typed}
+use Rattle.view.proofs.minus_product as minus
+use Rattle.view.proofs.minus_product.Symbol as minus-def
+use Rattle.view.proofs.minus_product.Symbol.{name as #view·minus-product}
+use Rattle.view.proofs.minus_product.Met as minus-thm
+use Rattle.view.proofs.sub_mat_plus_vec_inplace.Key.{name as #view·sub-mat-plus-vec-inplace}
+use Rattle.view.proofs.sub_mat_plus_vec_inplace as f
+use Rattle.view.proofs.sub_mat_plus_vec_inplace.Statement as stated
+use Rattle.view.proofs.sub_mat_plus_vec_inplace.Code as code
 
 -- the view's type, over the signature's lifetimes
 abbrev B : Lfts 3 → RattleType
@@ -129,7 +129,7 @@ module _ {M : Type 1} (𝓤 : URA M) (H : Heap 𝓤) (A : Atoms 𝓤) (W : Given
       -- [the result; y's last list; the view and b]
       nothing ! $ move ! (2 ∷ 0 ∷ []) $ fjoin ! $ move ! (2 ∷ []) $ split ! $ move ! (1 ∷ 2 ∷ []) $ fjoin ! $ move ! (1 ∷ 0 ∷ []) $ fjoin ! $ frame ! $ done !
 
-  module _ (C : Calls 𝓤 H) (Λ : Loops 𝓤 H) (fm : FmC 𝓤 H (W .laws) C) (known : Triple 𝓤 (C #kernel·view·minus-product) (Minus 𝓤 H A mem run)) where
+  module _ (C : Calls 𝓤 H) (Λ : Loops 𝓤 H) (fm : FmC 𝓤 H (W .laws) C) (known : Triple 𝓤 (C #view·minus-product) (Minus 𝓤 H A mem run)) where
     walk : Holds (hasTy (T′.mir (named 0)) (mach d)) × WT (mach d) → Is (ShrSlice (named 1) κ′ f64) b (sb ∷ []) → Is (MutSlice (named 2) κ″ f64) y (sy ∷ [])
         → ent 𝓤 (onEntry 𝓤 H A f.signature κs (q, (q′, (q″, tt))) (d, (b, (y, tt))) at) (WpFn 𝓤 H C Λ code.function (mach d ∷ sb ∷ sy ∷ []) Post)
     walk wt isb isy =
@@ -158,7 +158,7 @@ module _ {M : Type 1} (𝓤 : URA M) (H : Heap 𝓤) (A : Atoms 𝓤) (W : Given
         keep ! (0 ∷ 1 ∷ 2 ∷ 4 ∷ []) $ by ! (exits r u (zs .1 .1 .1 .1 .0) e l))))))))))))))))
 
 module _ {M : Type 1} (𝓤 : URA M) (H : Heap 𝓤) (A : Atoms 𝓤) (W : Given 𝓤 H A) (mem : Memory → SProp 𝓤) (run : Routine → Fun 𝓤) where
-  walks : (C : Calls 𝓤 H) (Λ : Loops 𝓤 H) → FmC 𝓤 H (W .laws) C → Triple 𝓤 (C #kernel·view·minus-product) (Minus 𝓤 H A mem run)
+  walks : (C : Calls 𝓤 H) (Λ : Loops 𝓤 H) → FmC 𝓤 H (W .laws) C → Triple 𝓤 (C #view·minus-product) (Minus 𝓤 H A mem run)
       → Walks 𝓤 H A f.ended stayed (WpFn 𝓤 H C Λ code.function) (f.clauses 𝓤 H A mem run)
   walks C Λ fm known = walked 𝓤 H A f.ended stayed (f.clauses 𝓤 H A mem run) (WpFn 𝓤 H C Λ code.function)
       (λ κs. (LL.vals (T.the-type (namedLft 3 0 tt κs)) (T′.the-laws (namedLft 3 0 tt κs)), (slice-vals, (slice-vals, tt))))
@@ -167,7 +167,7 @@ module _ {M : Type 1} (𝓤 : URA M) (H : Heap 𝓤) (A : Atoms 𝓤) (W : Given
       (walk 𝓤 H A W mem run (κs .0) (κs .1 .0) (κs .1 .1 .0) (qs .0) (qs .1 .0) (qs .1 .1 .0) (a .0) (a .1 .0) (a .1 .1 .0 .ptr .0) (a .1 .1 .0 .ptr .1) (a .1 .1 .0 .name) (a .1 .1 .0 .now) C Λ fm known (typed 𝓤 H A W (κs .0) (a .0) (are .0)) (are .1 .0) (are .1 .1 .0)))
 
 meets : {M : Type 1} (𝓤 : URA M) (H : Heap 𝓤) (A : Atoms 𝓤) (W : Given 𝓤 H A) (mem : Memory → SProp 𝓤) (run : Routine → Fun 𝓤) (𝓣 : Tables 𝓤 H)
-    → Triple 𝓤 (𝓣 .C #kernel·view·minus-product) (Minus 𝓤 H A mem run)
+    → Triple 𝓤 (𝓣 .C #view·minus-product) (Minus 𝓤 H A mem run)
     → Meets 𝓤 H A f.signature (WpFn 𝓤 H (𝓣 .C) (𝓣 .Λ) code.function) (f.spec 𝓤 H A mem run)
 meets 𝓤 H A W mem run 𝓣 known =
     walk-meets 𝓤 H A f.ended stayed W (goes-none 𝓤 H A W 3 B yes (λ κs x f. refl), (goes-none-slice 𝓤 H A W 3 (1 ∷ []) tt (plain (λ _. f64)) yes, (goes-gave-slice 𝓤 H A W 3 2 tt (plain (λ _. f64)), tt))) (f.clauses 𝓤 H A mem run)
@@ -177,6 +177,6 @@ pub sub-mat-plus-vec-inplace-spec : {M : Type 1} → stated.statement M
 unfolding code.routine tablesOf
 sub-mat-plus-vec-inplace-spec 𝓤 H 𝓜 𝓖 𝓡 =
     entered 𝓤 H (tripleOf 𝓤 H (𝓖 .A) f.signature (f.spec 𝓤 H (𝓖 .A) (𝓜 .mem) (𝓡 .run)))
-    (tables 𝓤 H 𝓜 𝓡 code.env .C) (tables 𝓤 H 𝓜 𝓡 code.env .Λ) #kernel·view·sub-mat-plus-vec-inplace code.function (code.unfolded 𝓤 H 𝓜 𝓡)
+    (tables 𝓤 H 𝓜 𝓡 code.env .C) (tables 𝓤 H 𝓜 𝓡 code.env .Λ) #view·sub-mat-plus-vec-inplace code.function (code.unfolded 𝓤 H 𝓜 𝓡)
     (meets 𝓤 H (𝓖 .A) (givenOf 𝓤 H 𝓜 𝓖) (𝓜 .mem) (𝓡 .run) (tablesOf 𝓤 H 𝓜 (tables 𝓤 H 𝓜 𝓡 code.env))
-    (cited 𝓤 H (Minus 𝓤 H (𝓖 .A) (𝓜 .mem) (𝓡 .run)) 𝓜 𝓡 code.env #kernel·view·minus-product minus-def.routine code.calls-kernel·view·minus-product (minus-thm.met 𝓤 H 𝓜 𝓖 𝓡)))
+    (cited 𝓤 H (Minus 𝓤 H (𝓖 .A) (𝓜 .mem) (𝓡 .run)) 𝓜 𝓡 code.env #view·minus-product minus-def.routine code.calls-view·minus-product (minus-thm.met 𝓤 H 𝓜 𝓖 𝓡)))

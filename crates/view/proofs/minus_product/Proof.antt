@@ -1,7 +1,7 @@
--- `kernel::view::minus_product` meets its contract: the kernel that it calls promises the same. Assumes nothing.
+-- `view::minus_product` meets its contract: the kernel that it calls promises the same. Assumes nothing.
 use borrow.Author.Needs.{needs}
-use Rattle.kernel.proofs.view.minus_product.Statement.{statement}
-use Rattle.kernel.proofs.view.minus_product.Tie as tie
+use Rattle.view.proofs.minus_product.Statement.{statement}
+use Rattle.view.proofs.minus_product.Tie as tie
 
 answers : tie.Need-returns
 answers c = c .before .before .sub-mat-plus-vec-inplace .ensures

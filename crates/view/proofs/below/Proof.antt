@@ -1,12 +1,12 @@
--- `kernel::view::below` meets its contract: each return is a law of the first of two verdicts. Assumes nothing.
+-- `view::below` meets its contract: each return is a law of the first of two verdicts. Assumes nothing.
 use mathlib.Core.Path.{_≡_, sym, _∙_}
 use borrow.Author.Needs.{needs}
 use borrow.Author.Tests.{lt-ltb, le-ltb}
 use Rattle.refusal.specs.Refusal.{done}
 use Rattle.refusal.specs.Shaped.{told}
 use Rattle.refusal.proofs.Laws.{first-refuses, passed}
-use Rattle.kernel.proofs.view.below.Statement.{statement}
-use Rattle.kernel.proofs.view.below.Tie as tie
+use Rattle.view.proofs.below.Statement.{statement}
+use Rattle.view.proofs.below.Tie as tie
 
 refused-before : tie.Need-returns
 refused-before c = first-refuses _ _ (sym (c .before .refused .ensures) ∙ c .if1 .taken)

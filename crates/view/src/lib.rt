@@ -12,7 +12,7 @@ ghost use lib.ListN.{length};
 ghost use Rattle.refusal.specs.Refusal.{firstOf};
 ghost use Rattle.refusal.specs.Shaped.{told, Answers};
 ghost use Rattle.kernel_vector.specs.Vector.{subMatPlusVec, vectorVerdict};
-ghost use Rattle.kernel.specs.View.{indexCheck, entryVerdict, entryOf, toldLooked};
+ghost use Rattle.view.specs.View.{indexCheck, entryVerdict, entryOf, toldLooked};
 
 // A block: its numbers, column by column, its height and its width.
 pub struct BlockView<'a> {

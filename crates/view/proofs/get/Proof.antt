@@ -1,4 +1,4 @@
--- `kernel::view::get` meets its contract: a walk of its MIR, where the view, which is Copy, stays for the exit, its fields go to `entry_of`, and that one's contract says the rest. Assumes nothing.
+-- `view::get` meets its contract: a walk of its MIR, where the view, which is Copy, stays for the exit, its fields go to `entry_of`, and that one's contract says the rest. Assumes nothing.
 use mathlib.Core.Path.{_≡_, refl}
 use Prim.Native.Nat.{ℕ, _<_, _^_}
 use mathlib.Core.List.{[], _∷_}
@@ -38,22 +38,22 @@ use denote.Triple.Walked.{says, Stays, stay-none, walkOf, goes-none, Walks, ends
 use denote.Exit.{yes}
 use denote.Triple.Clauses.{ensured, lasts}
 use Rattle.refusal.specs.Refusal.{Told}
-use Rattle.kernel.specs.View.{toldLooked, entryOf}
-use Rattle.kernel.specs.declared.view.BlockView.{BlockView}
-use Rattle.kernel.specs.declared.view.Looked.{Looked}
-use Rattle.kernel.proofs.view.BlockView as T
-use Rattle.kernel.proofs.view.BlockView.Laws as T′
-use Rattle.kernel.proofs.view.Looked as S
-use Rattle.kernel.proofs.view.Looked.Laws as S′
-use Rattle.kernel.proofs.Held.{mach, slice, Own, Numbers, shares, typed}
-use Rattle.kernel.proofs.view.entry_of as entry
-use Rattle.kernel.proofs.view.entry_of.Symbol as entry-def
-use Rattle.kernel.proofs.view.entry_of.Symbol.{name as #kernel·view·entry-of}
-use Rattle.kernel.proofs.view.entry_of.Met as entry-thm
-use Rattle.kernel.proofs.view.get.Key.{name as #kernel·view·get}
-use Rattle.kernel.proofs.view.get as get
-use Rattle.kernel.proofs.view.get.Statement as stated
-use Rattle.kernel.proofs.view.get.Code as code
+use Rattle.view.specs.View.{toldLooked, entryOf}
+use Rattle.view.specs.declared.BlockView.{BlockView}
+use Rattle.view.specs.declared.Looked.{Looked}
+use Rattle.view.proofs.BlockView as T
+use Rattle.view.proofs.BlockView.Laws as T′
+use Rattle.view.proofs.Looked as S
+use Rattle.view.proofs.Looked.Laws as S′
+use Rattle.view.proofs.Held.{mach, slice, Own, Numbers, shares, typed}
+use Rattle.view.proofs.entry_of as entry
+use Rattle.view.proofs.entry_of.Symbol as entry-def
+use Rattle.view.proofs.entry_of.Symbol.{name as #view·entry-of}
+use Rattle.view.proofs.entry_of.Met as entry-thm
+use Rattle.view.proofs.get.Key.{name as #view·get}
+use Rattle.view.proofs.get as get
+use Rattle.view.proofs.get.Statement as stated
+use Rattle.view.proofs.get.Code as code
 
 -- the struct's type, over the signature's lifetimes
 abbrev B : Lfts 1 → RattleType
@@ -107,7 +107,7 @@ module _ {M : Type 1} (𝓤 : URA M) (H : Heap 𝓤) (A : Atoms 𝓤) (W : Given
       suffices ! _ (ends-at 𝓤 H A get.ended stayed (get.clauses 𝓤 H A mem run) W (((κ, tt), (q, tt), tt, (d, (r, (c, tt))), at), tt) u x (tt, (tt, (tt, tt))) (tt, (tt, (tt, tt)))) $ says ! e $
       move ! (1 ∷ []) $ frame ! $ nothing ! $ owned ! usize (Is usize) (uint-makes 𝓤 H A W w64) c _ (refl, c-fits) $ fjoin ! $ owned ! usize (Is usize) (uint-makes 𝓤 H A W w64) r _ (refl, r-fits) $ fjoin ! $ move ! (2 ∷ 0 ∷ []) $ fjoin ! $ frame ! $ done !
 
-  module _ (C : Calls 𝓤 H) (Λ : Loops 𝓤 H) (fm : FmC 𝓤 H (W .laws) C) (known : Triple 𝓤 (C #kernel·view·entry-of) (Entry 𝓤 H A mem run)) where
+  module _ (C : Calls 𝓤 H) (Λ : Loops 𝓤 H) (fm : FmC 𝓤 H (W .laws) C) (known : Triple 𝓤 (C #view·entry-of) (Entry 𝓤 H A mem run)) where
     walk : Holds (hasTy (T′.mir (named 0)) (mach d)) × WT (mach d) → ent 𝓤 (onEntry 𝓤 H A get.signature (κ, tt) (q, tt) (d, (r, (c, tt))) at) (WpFn 𝓤 H C Λ code.function (mach d ∷ vint w64 r ∷ vint w64 c ∷ []) Post)
     walk wt =
         qed W (raw (onEntry 𝓤 H A get.signature (κ, tt) (q, tt) (d, (r, (c, tt))) at) ∷ []) ∵ enter ! C Λ code.function (mach d ∷ vint w64 r ∷ vint w64 c ∷ []) _ $
@@ -127,7 +127,7 @@ module _ {M : Type 1} (𝓤 : URA M) (H : Heap 𝓤) (A : Atoms 𝓤) (W : Given
         move ! (15 ∷ 16 ∷ []) $ free1 ! $ move ! (13 ∷ 14 ∷ []) $ free1 ! $ move ! (11 ∷ 12 ∷ []) $ free1 ! $ move ! (9 ∷ 10 ∷ []) $ free1 ! $ move ! (7 ∷ 8 ∷ []) $ free1 ! $ move ! (5 ∷ 6 ∷ []) $ free1 ! $ move ! (3 ∷ 4 ∷ []) $ free1 ! $ free0 ! $ by ! (exits x u e))))))))))))
 
 module _ {M : Type 1} (𝓤 : URA M) (H : Heap 𝓤) (A : Atoms 𝓤) (W : Given 𝓤 H A) (mem : Memory → SProp 𝓤) (run : Routine → Fun 𝓤) where
-  get-walks : (C : Calls 𝓤 H) (Λ : Loops 𝓤 H) → FmC 𝓤 H (W .laws) C → Triple 𝓤 (C #kernel·view·entry-of) (Entry 𝓤 H A mem run)
+  get-walks : (C : Calls 𝓤 H) (Λ : Loops 𝓤 H) → FmC 𝓤 H (W .laws) C → Triple 𝓤 (C #view·entry-of) (Entry 𝓤 H A mem run)
       → Walks 𝓤 H A get.ended stayed (WpFn 𝓤 H C Λ code.function) (get.clauses 𝓤 H A mem run)
   get-walks C Λ fm known = walked 𝓤 H A get.ended stayed (get.clauses 𝓤 H A mem run) (WpFn 𝓤 H C Λ code.function)
       (λ κs. (LL.vals (T.the-type (namedLft 1 0 tt κs)) (T′.the-laws (namedLft 1 0 tt κs)), (uint-vals w64, (uint-vals w64, tt)))) (λ κs. (LL.tells (T.the-type (namedLft 1 0 tt κs)) (T′.the-laws (namedLft 1 0 tt κs)), (uint-tells w64, (uint-tells w64, tt))))
@@ -135,7 +135,7 @@ module _ {M : Type 1} (𝓤 : URA M) (H : Heap 𝓤) (A : Atoms 𝓤) (W : Given
       (walk 𝓤 H A W mem run (κs .0) (qs .0) (a .0) (a .1 .0) (a .1 .1 .0) (are .1 .0 .1) (are .1 .1 .0 .1) C Λ fm known (typed 𝓤 H A W (κs .0) (a .0) (are .0))))
 
 get-meets : {M : Type 1} (𝓤 : URA M) (H : Heap 𝓤) (A : Atoms 𝓤) (W : Given 𝓤 H A) (mem : Memory → SProp 𝓤) (run : Routine → Fun 𝓤) (𝓣 : Tables 𝓤 H)
-    → Triple 𝓤 (𝓣 .C #kernel·view·entry-of) (Entry 𝓤 H A mem run)
+    → Triple 𝓤 (𝓣 .C #view·entry-of) (Entry 𝓤 H A mem run)
     → Meets 𝓤 H A get.signature (WpFn 𝓤 H (𝓣 .C) (𝓣 .Λ) code.function) (get.spec 𝓤 H A mem run)
 get-meets 𝓤 H A W mem run 𝓣 known = walk-meets 𝓤 H A get.ended stayed W (goes-none 𝓤 H A W 1 B yes (λ κs x f. refl), (goes-none 𝓤 H A W 1 (λ _. usize) yes (λ κs x f. refl), (goes-none 𝓤 H A W 1 (λ _. usize) yes (λ κs x f. refl), tt))) (get.clauses 𝓤 H A mem run) (WpFn 𝓤 H (𝓣 .C) (𝓣 .Λ) code.function) (WpFn-mono 𝓤 H (W .laws) 𝓣 code.function)
     (get-walks 𝓤 H A W mem run (𝓣 .C) (𝓣 .Λ) (fmOf 𝓤 H (W .laws) 𝓣) known)
@@ -144,6 +144,6 @@ pub get-spec : {M : Type 1} → stated.statement M
 unfolding code.routine tablesOf
 get-spec 𝓤 H 𝓜 𝓖 𝓡 =
     entered 𝓤 H (tripleOf 𝓤 H (𝓖 .A) get.signature (get.spec 𝓤 H (𝓖 .A) (𝓜 .mem) (𝓡 .run)))
-    (tables 𝓤 H 𝓜 𝓡 code.env .C) (tables 𝓤 H 𝓜 𝓡 code.env .Λ) #kernel·view·get code.function (code.unfolded 𝓤 H 𝓜 𝓡)
+    (tables 𝓤 H 𝓜 𝓡 code.env .C) (tables 𝓤 H 𝓜 𝓡 code.env .Λ) #view·get code.function (code.unfolded 𝓤 H 𝓜 𝓡)
     (get-meets 𝓤 H (𝓖 .A) (givenOf 𝓤 H 𝓜 𝓖) (𝓜 .mem) (𝓡 .run) (tablesOf 𝓤 H 𝓜 (tables 𝓤 H 𝓜 𝓡 code.env))
-    (cited 𝓤 H (Entry 𝓤 H (𝓖 .A) (𝓜 .mem) (𝓡 .run)) 𝓜 𝓡 code.env #kernel·view·entry-of entry-def.routine code.calls-kernel·view·entry-of (entry-thm.met 𝓤 H 𝓜 𝓖 𝓡)))
+    (cited 𝓤 H (Entry 𝓤 H (𝓖 .A) (𝓜 .mem) (𝓡 .run)) 𝓜 𝓡 code.env #view·entry-of entry-def.routine code.calls-view·entry-of (entry-thm.met 𝓤 H 𝓜 𝓖 𝓡)))

@@ -18,9 +18,9 @@ use denote.Slice.{sliceVal, ShrSlice}
 use denote.Struct.Laws as LL
 use denote.Struct.Rest.{all-own, ownAt, rest, own-open, own-out}
 use denote.Struct.Values.{Values}
-use Rattle.kernel.specs.declared.view.BlockView.{BlockView}
-use Rattle.kernel.proofs.view.BlockView as T
-use Rattle.kernel.proofs.view.BlockView.Laws as T′
+use Rattle.view.specs.declared.BlockView.{BlockView}
+use Rattle.view.proofs.BlockView as T
+use Rattle.view.proofs.BlockView.Laws as T′
 
 -- the lifetime 'a, the machine values of the view and of its slice, and what the view owns
 abbrev pub α : Lft → NamedLft

@@ -8,7 +8,7 @@ use lib.Dec.{ltb}
 use Rattle.refusal.specs.Refusal.{Told, done, shapesDisagree, refuses, firstOf}
 use Rattle.refusal.specs.Check.{sizeCheck, areaCheck}
 use Rattle.refusal.proofs.Laws.{all-pass, area-passes, first-refuses, first-passes}
-use Rattle.kernel.specs.View.{indexCheck, entryVerdict}
+use Rattle.view.specs.View.{indexCheck, entryVerdict}
 
 of-test : (b : Bool) (place : ℕ) → refuses (cond b done (shapesDisagree place)) ≡ false → b ≡ true
 of-test true place e = cc

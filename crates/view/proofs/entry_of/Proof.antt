@@ -1,13 +1,13 @@
--- `kernel::view::entry_of` meets its contract: each arm is told which outcome the checks had, and they say what that is. Assumes nothing.
+-- `view::entry_of` meets its contract: each arm is told which outcome the checks had, and they say what that is. Assumes nothing.
 use mathlib.Core.Path.{refl, sym, ap, _∙_}
 use mathlib.Core.List.{[], _∷_}
 use lib.Ieee.{Float}
 use borrow.Author.Needs.{needs}
 use Rattle.refusal.specs.Refusal.{accepted}
 use Rattle.refusal.specs.Shaped.{told}
-use Rattle.kernel.proofs.Entry.{entry-fits, look-refused, look-done}
-use Rattle.kernel.proofs.view.entry_of.Statement.{statement}
-use Rattle.kernel.proofs.view.entry_of.Tie as tie
+use Rattle.view.proofs.Entry.{entry-fits, look-refused, look-done}
+use Rattle.view.proofs.entry_of.Statement.{statement}
+use Rattle.view.proofs.entry_of.Tie as tie
 
 fits : tie.Need-entry-requires
 fits c κs = entry-fits _ _ _ _ _ (sym (ap told (c .enum-told .given .1)) ∙ c .before .before .entry-shapes .ensures)

@@ -8,8 +8,8 @@ use lib.ListN.{length}
 use Rattle.scalar.specs.Block.{at}
 use Rattle.refusal.specs.Refusal.{Told, accepted, done, badDimension, shapesDisagree, firstOf, verdict}
 use Rattle.refusal.specs.Check.{sizeCheck, areaCheck}
-use Rattle.kernel.specs.declared.view.Looked.{Looked}
-use Rattle.kernel.specs.declared.view.Looked.the-variants.{Accepted, Dimension, Mismatch}
+use Rattle.view.specs.declared.Looked.{Looked}
+use Rattle.view.specs.declared.Looked.the-variants.{Accepted, Dimension, Mismatch}
 
 -- the outcome as document 01 words it
 abbrev pub toldLooked : Looked → Told
