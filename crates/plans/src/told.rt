@@ -1,6 +1,6 @@
 // What a call answers, and whether the list says the same.
-use plan::Planned;
 use checks::System;
+use plan::Planned;
 ghost use Prim.Native.Nat.{_<_};
 
 pub struct Told {
