@@ -12,6 +12,7 @@ use Rattle.graph.specs.Symbolic.{climbs, reach, parents, column, columns}
 use Rattle.graph.specs.Symbolic as L
 use Rattle.graph.specs.Liu.{Forest}
 use Rattle.graph.proofs.SetLaws.{elem-head, elem-tail, filter-elim, filter-intro, filter-inc, between-elim, between-intro, between-inc}
+use Rattle.graph.proofs.CountLaws.{same-test}
 use Rattle.graph.proofs.SumLaws.{sum-ext, filter-all}
 use Rattle.buckets.specs.Buckets.{lengths}
 use Rattle.elimination_tree.specs.Tree.{code, upper, Pattern, Ascends, linkedUp, parentsOf}
@@ -28,12 +29,6 @@ filter-ext : (p q : ℕ → Bool) (l : List ℕ) → ((x : ℕ) → T (elem x l)
 filter-ext p q [] h = refl
 filter-ext p q (x ∷ l) h =
     ap (λ (b : Bool). keep b x (filter p l)) (h x (elem-head x l)) ∙ ap (keep (q x) x) (filter-ext p q l (λ y m. h y (elem-tail y x l m)))
-
-same-test : (a b : Bool) → (T a → T b) → (T b → T a) → a ≡ b
-same-test true true f g = refl
-same-test true false f g = absurd (f tt)
-same-test false true f g = absurd (g tt)
-same-test false false f g = refl
 
 -- ---- two links that agree between different blocks give the same columns
 

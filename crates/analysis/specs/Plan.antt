@@ -5,7 +5,7 @@ use mathlib.Core.Bool.{Bool}
 use mathlib.Core.List.{List, map}
 use lib.ListN.{length, take}
 use Rattle.graph.specs.Sets.{between, from, sum, gather}
-use Rattle.graph.specs.Links.{linkedIn}
+use Rattle.graph.specs.Links.{linkedOf}
 use Rattle.graph.specs.Order.{moved}
 use Rattle.graph.specs.Symbolic.{columns, rows}
 use Rattle.graph.specs.Count.{productsOf}
@@ -32,10 +32,6 @@ startsOf linked n = map {A = ℕ} {B = ℕ} (λ k. sum (between 0 k) (λ c. leng
 -- L's rows, column after column
 abbrev pub rowsOf : (linked : ℕ → ℕ → Bool) → (n : ℕ) → List ℕ
 rowsOf linked n = gather (rows linked n) (between 0 n)
-
--- the links of a night: of A's tables under the permutation after the late move
-abbrev pub linkedOf : (starts rows perm late : List ℕ) → ℕ → ℕ → Bool
-linkedOf starts rows perm late = linkedIn starts rows (moved perm late)
 
 -- Liu's parents, the rows of each column counted, and what L has in all
 pub record Analyzed (n : ℕ) (linked : ℕ → ℕ → Bool) (sizes tree count : List ℕ) (all : Counts) : Type 0 where

@@ -87,3 +87,9 @@ pub elem-at : (l : List ℕ) (i : ℕ) → i < length l → T (elem (getD l i 0)
 elem-at [] i h = absurd (omega arith)
 elem-at (x ∷ l) zero h = elem-head x l
 elem-at (x ∷ l) (suc i) h = elem-tail (getD l i 0) x l (elem-at l i (omega arith))
+
+-- an entry of a list with another behind it
+pub front : (xs ys : List ℕ) (k : ℕ) → k < length xs → getD (xs ++ ys) k 0 ≡ getD xs k 0
+front [] ys k h = absurd (omega arith)
+front (x ∷ xs) ys zero h = refl
+front (x ∷ xs) ys (suc k) h = let g : suc k < suc (length xs) = h in front xs ys k (omega arith)

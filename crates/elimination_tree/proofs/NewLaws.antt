@@ -12,6 +12,7 @@ use Rattle.graph.specs.Fill.{Least}
 use Rattle.graph.specs.Tree.{Parent}
 use Rattle.graph.proofs.SetLaws.{filter-inc}
 use Rattle.graph.proofs.Whole.{parent-of-least}
+use Rattle.buckets.proofs.Lists.{front}
 use Rattle.refusal.specs.Refusal.{Told, done, shortBuffer, refuses, verdict, verdictAfter, after}
 use Rattle.refusal.specs.Check.{needCheck}
 use Rattle.refusal.proofs.Laws.{stays-refused, need-short, need-met}
@@ -56,11 +57,6 @@ refused v n starts rows parents ancestors r e stops =
     record { outcome = e; tree = same parents _; liu = λ passes. absurd (false≢true (sym passes ∙ stops)); scratch = same ancestors _ }
 
 -- the table of parents, before anything that stands after it, holds the parents that Liu defines
-front : (xs ys : List ℕ) (k : ℕ) → k < length xs → getD (xs ++ ys) k 0 ≡ getD xs k 0
-front [] ys k h = let none : k < 0 = h in omega arith
-front (x ∷ xs) ys zero h = refl
-front (x ∷ xs) ys (suc k) h = let g : suc k < suc (length xs) = h in front xs ys k (omega arith)
-
 pub is-parent : (n : ℕ) (starts rows rest tree : List ℕ) → n ≤ 4096 → tree ≡ parentsOf (linkedUp starts rows) n → (k : ℕ) → k < n → Parent (linkedUp starts rows) n k (decode (getD (tree ++ rest) k 0))
 is-parent n starts rows rest tree few e k below =
     let linked = linkedUp starts rows in

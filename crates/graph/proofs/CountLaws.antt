@@ -18,7 +18,7 @@ use Rattle.graph.proofs.SumLaws.{sum-ext, sum-swap, length-gather, weig
 use Rattle.graph.proofs.SymbolicLaws.{rows-right, rows-ascending, parent-least, reach-rows, reach-uniq}
 use Rattle.graph.proofs.LiuLaws.{Chain, stay, up, fill-chain}
 
-same-test : (a b : Bool) → (T a → T b) → (T b → T a) → a ≡ b
+pub same-test : (a b : Bool) → (T a → T b) → (T b → T a) → a ≡ b
 same-test true true f g = refl
 same-test true false f g = absurd (f tt)
 same-test false true f g = absurd (g tt)

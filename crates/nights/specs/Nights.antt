@@ -4,11 +4,12 @@ use mathlib.Core.Bool.{Bool}
 use mathlib.Core.List.{List, [], _∷_, _++_, map}
 use mathlib.Core.Option.{Option, none, some}
 use mathlib.Core.Path.{_≡_}
-use Prim.Native.Nat.{ℕ}
-use lib.ListN.{length, getD}
+use Prim.Native.Nat.{ℕ, _≤_}
+use lib.Dec.{T}
+use lib.ListN.{length}
 use lib.Ieee.{Float, binary64, ofBits}
 use Rattle.graph.specs.Sets.{between, sum}
-use Rattle.graph.specs.Links.{linkedBy}
+use Rattle.graph.specs.Links.{linkedOf}
 use Rattle.graph.specs.Symbolic.{reach, rows}
 use Rattle.graph.specs.Count.{triples}
 use Rattle.graph.specs.Liu.{treeParent}
@@ -30,17 +31,19 @@ abbrev pub Hold : List Night → Type 0
 Hold [] = Unit
 Hold (night ∷ nights) = (night .answer ≡ night .expected) × Hold nights
 
--- ---- patterns: the rows below the diagonal that A stores in each column, and the permutation
+-- ---- patterns: A's tables, the permutation and the late flags
 
 pub record Pattern : Type 0 where
-  pub stored : List (List ℕ)
+  pub starts : List ℕ
+  pub rows : List ℕ
   pub perm : List ℕ
+  pub late : List ℕ
 
 abbrev pub blocks : Pattern → ℕ
 blocks a = length (a .perm)
 
 abbrev pub links : Pattern → ℕ → ℕ → Bool
-links a = linkedBy (λ c. getD (a .stored) c []) (a .perm)
+links a = linkedOf (a .starts) (a .rows) (a .perm) (a .late)
 
 -- a parent as the tables hold it: none is 4,294,967,295
 abbrev pub code : Option ℕ → ℕ
@@ -81,7 +84,7 @@ abbrev pub -1e-11 : Float
 
 -- links (1,0) (2,1) (3,0): parents 1, 2, 3, none; reach of 3 is 2, 1, 0; L stores 5; 7 products
 abbrev pub a1 : Pattern
-a1 = record { stored = (1 ∷ 3 ∷ []) ∷ (2 ∷ []) ∷ [] ∷ [] ∷ []; perm = 0 ∷ 1 ∷ 2 ∷ 3 ∷ [] }
+a1 = record { starts = 0 ∷ 2 ∷ 3 ∷ 3 ∷ 3 ∷ []; rows = 1 ∷ 3 ∷ 2 ∷ []; perm = 0 ∷ 1 ∷ 2 ∷ 3 ∷ []; late = 0 ∷ 0 ∷ 0 ∷ 0 ∷ [] }
 
 abbrev pub p1 : Night
 p1 =
@@ -93,14 +96,14 @@ p1 =
 
 -- links (2,0) (2,1): reach of 2 is 1, 0; 2 products
 abbrev pub a2 : Pattern
-a2 = record { stored = (2 ∷ []) ∷ (2 ∷ []) ∷ [] ∷ []; perm = 0 ∷ 1 ∷ 2 ∷ [] }
+a2 = record { starts = 0 ∷ 1 ∷ 2 ∷ 2 ∷ []; rows = 2 ∷ 2 ∷ []; perm = 0 ∷ 1 ∷ 2 ∷ []; late = 0 ∷ 0 ∷ 0 ∷ [] }
 
 abbrev pub p2 : Night
 p2 = record { number = 2; answer = accepted (reachOf a2 2 ++ (products a2 ∷ [])) []; expected = accepted (1 ∷ 0 ∷ 2 ∷ []) [] }
 
--- hub 0 of four blocks: 6 stored, 10 products
+-- hub 0 of four blocks: 6 stored, 10 products, which `MostOfFour` calls the most for four
 abbrev pub hub : List ℕ → Pattern
-hub perm = record { stored = (1 ∷ 2 ∷ 3 ∷ []) ∷ [] ∷ [] ∷ [] ∷ []; perm = perm }
+hub perm = record { starts = 0 ∷ 3 ∷ 3 ∷ 3 ∷ 3 ∷ []; rows = 1 ∷ 2 ∷ 3 ∷ []; perm = perm; late = 0 ∷ 0 ∷ 0 ∷ 0 ∷ [] }
 
 abbrev pub p3 : Night
 p3 =
@@ -118,13 +121,13 @@ abbrev pub p5 : Night
 p5 =
     record {
       number = 5;
-      answer = accepted (products (record { stored = [] ∷ [] ∷ [] ∷ []; perm = 0 ∷ 1 ∷ 2 ∷ [] }) ∷ []) [];
+      answer = accepted (products (record { starts = 0 ∷ 0 ∷ 0 ∷ 0 ∷ []; rows = []; perm = 0 ∷ 1 ∷ 2 ∷ []; late = 0 ∷ 0 ∷ 0 ∷ [] }) ∷ []) [];
       expected = accepted (0 ∷ []) [];
     }
 
 -- no blocks: 0
 abbrev pub p6 : Night
-p6 = record { number = 6; answer = accepted (products (record { stored = []; perm = [] }) ∷ []) []; expected = accepted (0 ∷ []) [] }
+p6 = record { number = 6; answer = accepted (products (record { starts = 0 ∷ []; rows = []; perm = []; late = [] }) ∷ []) []; expected = accepted (0 ∷ []) [] }
 
 -- dense 0×0: rank 0, PositiveDefinite, condition 0.0
 abbrev pub p7 : Night
@@ -164,3 +167,7 @@ p10 =
 
 abbrev pub nights : List Night
 nights = p1 ∷ p2 ∷ p3 ∷ p4 ∷ p5 ∷ p6 ∷ p7 ∷ p8 ∷ p9 ∷ p10 ∷ []
+
+-- P3's "the most for four": no pattern of four blocks has more than 10 products
+abbrev pub MostOfFour : Type 0
+MostOfFour = (linked : ℕ → ℕ → Bool) → ((a b : ℕ) → T (linked a b) → T (linked b a)) → length (triples linked 4) ≤ 10

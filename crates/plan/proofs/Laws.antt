@@ -24,7 +24,9 @@ use Rattle.elimination_tree.specs.Tree.{decode, linkedUp, parentsOf}
 use Rattle.elimination_tree.proofs.Links.{parents-length, parents-least}
 use Rattle.symbolic.specs.Columns.{Tree, columnsOf}
 use Rattle.buckets.specs.Buckets.{lengths}
-use Rattle.analysis.specs.Plan.{storedOf, startsOf, rowsOf, Ready}
+use Rattle.buckets.proofs.Lists.{front}
+use Rattle.graph.specs.Count.{triples}
+use Rattle.analysis.specs.Plan.{storedOf, productsIn, startsOf, rowsOf, Ready}
 use Rattle.analysis.specs.declared.core.Analysis.{Analysis}
 use Rattle.analysis.proofs.Same.{same-columns, same-stored, same-starts, same-l-rows, tree-of}
 use Rattle.plan.specs.Plan.{told, Night, Places, blocks, links, firstList, planList, early, whole, answer, Plans, Exact}
@@ -38,11 +40,8 @@ links-symm a p q t = linked-symm (rowsIn (a .starts) (a .rows)) (moved (a .perm)
 path-rule : (a : Night) (k i : ℕ) → k < blocks a → T (elem i (L.rows (links a) (blocks a) k)) ↔ ((i < blocks a) × rule.Stored (links a) k i)
 path-rule a = whole-in (a .starts) (a .rows) (moved (a .perm) (a .late)) (blocks a) .path-rule
 
--- the table of parents, before anything that stands after it
-front : (xs ys : List ℕ) (k : ℕ) → k < length xs → getD (xs ++ ys) k 0 ≡ getD xs k 0
-front [] ys k h = absurd (omega arith)
-front (x ∷ xs) ys zero h = refl
-front (x ∷ xs) ys (suc k) h = let g : suc k < suc (length xs) = h in front xs ys k (omega arith)
+all-products : (a : Night) → productsIn (links a) (blocks a) ≡ length (triples (links a) (blocks a))
+all-products a = sym (whole-in (a .starts) (a .rows) (moved (a .perm) (a .late)) (blocks a) .count)
 
 liu-parents : (a : Night) (rest : List ℕ) → blocks a ≤ 4096 → (k : ℕ) → k < blocks a → Parent (links a) (blocks a) k (decode (getD (parentsOf (links a) (blocks a) ++ rest) k 0))
 liu-parents a rest few k h =
@@ -116,6 +115,7 @@ refused v a b r e stops =
       upper = scratch (b .upper) _;
       liu = λ passes. absurd (false≢true (sym passes ∙ also));
       path = path-rule a;
+      products = all-products a;
     }
 
 -- the tables are refused, and so is the call, in the same words
@@ -181,6 +181,7 @@ module _ (a : Night) (b b′ : Places) (r : Planned) (x : Exact a b) (z : Zeros 
         upper = z .upper ∙ exact (length (a .rows)) (b .upper) _ (x .upper);
         liu = λ passes. absurd (false≢true (sym passes ∙ also));
         path = path-rule a;
+      products = all-products a;
       }
 
   -- it is long enough
@@ -208,6 +209,7 @@ module _ (a : Night) (b b′ : Places) (r : Planned) (x : Exact a b) (z : Zeros 
         upper = z .upper ∙ exact (length (a .rows)) (b .upper) _ (x .upper);
         liu = λ _ k h. subst (λ (t : List ℕ). Parent (links a) (blocks a) k (decode (getD t k 0))) (sym (p ∙ sym (append-nil _))) (liu-parents a [] few k h);
         path = path-rule a;
+      products = all-products a;
       }
 
 -- ---- in the first places of longer buffers
@@ -303,6 +305,7 @@ lengthened v a b r c passed few m q =
       upper = lifted done (length (a .rows)) (b .upper) (replicate (length (a .rows)) 0) (c .upper) (m .upper) (q .upper);
       liu = λ passes k h. subst (λ (t : List ℕ). Parent (links a) (blocks a) k (decode (getD t k 0))) (sym (tree ∙ ap (λ (t : Bool). cond t (b .parents) (parentsOf (links a) (blocks a) ++ drop (blocks a) (b .parents))) passes)) (liu-parents a (drop (blocks a) (b .parents)) few k h);
       path = path-rule a;
+      products = all-products a;
     })
   where
     tree : c .parents ++ drop (blocks a) (b .parents) ≡ after (whole done a b) (b .parents) (parentsOf (links a) (blocks a) ++ drop (blocks a) (b .parents))

@@ -7,7 +7,9 @@ use mathlib.Core.Path.{_≡_}
 use lib.Dec.{T}
 use lib.ListN.{length, getD, drop, replicate}
 use Rattle.graph.specs.Sets.{elem}
+use Rattle.graph.specs.Links.{linkedOf}
 use Rattle.graph.specs.Order.{moved}
+use Rattle.graph.specs.Count.{triples}
 use Rattle.graph.specs.Path as rule
 use Rattle.graph.specs.Tree.{Parent}
 use Rattle.graph.specs.Symbolic as L
@@ -17,7 +19,7 @@ use Rattle.tables.specs.Verdict.{planVerdict}
 use Rattle.elimination_tree.specs.Tree.{decode, parentsOf}
 use Rattle.order.specs.Order.{sizesOf}
 use Rattle.symbolic.specs.Columns.{numbersOf}
-use Rattle.analysis.specs.Plan.{storedOf, productsIn, startsOf, rowsOf, linkedOf}
+use Rattle.analysis.specs.Plan.{storedOf, productsIn, startsOf, rowsOf}
 use Rattle.plan.specs.declared.Planned.{Planned}
 use Rattle.plan.specs.declared.Planned.the-variants.{Accepted, Blocks, Dimension, Starts, Stored, Row, Order, Permutation, Late, Short}
 
@@ -108,8 +110,7 @@ early a b = verdictAfter (planVerdict (a .dims) (a .starts) (a .rows) (a .perm) 
 
 -- ---- the promise
 
--- under an early verdict v: outputs are as they were where the call refuses, and scratch where v refuses; else outputs have the plan,
--- and scratch is zeros. Places beyond a need are as they were.
+-- the whole verdict: after an early one, the need that only the plan shows
 abbrev pub whole : Told → Night → Places → Told
 whole v a b = verdictAfter v (needChecks (planList a b))
 
@@ -121,6 +122,8 @@ answer a = accepted (storedOf (links a) (blocks a) ∷ numbersOf (links a) (bloc
 abbrev pub cleared : ℕ → List ℕ → List ℕ
 cleared n xs = replicate n 0 ++ drop n xs
 
+-- under an early verdict v: outputs are as they were where the call refuses, and scratch where v refuses; else outputs have the plan,
+-- and scratch is zeros. Places beyond a need are as they were.
 pub record Plans (v : Told) (a : Night) (b : Places) (r : Planned) (b′ : Places) : Type 0 where
   pub outcome : told r ≡ firstOf (whole v a b) (answer a)
   -- the outputs
@@ -137,9 +140,10 @@ pub record Plans (v : Told) (a : Night) (b : Places) (r : Planned) (b′ : Place
   pub stamps : b′ .stamps ≡ after v (b .stamps) (cleared (blocks a) (b .stamps))
   pub table : b′ .table ≡ after v (b .table) (cleared (length (a .rows)) (b .table))
   pub upper : b′ .upper ≡ after v (b .upper) (cleared (length (a .rows)) (b .upper))
-  -- each parent is Liu's, and each column has exactly the rows of the path rule
+  -- each parent is Liu's, each column has exactly the rows of the path rule, and the products are the triples (i, j, k)
   pub liu : refuses (whole v a b) ≡ false → (k : ℕ) → k < blocks a → Parent (links a) (blocks a) k (decode (getD (b′ .parents) k 0))
   pub path : (k i : ℕ) → k < blocks a → T (elem i (L.rows (links a) (blocks a) k)) ↔ ((i < blocks a) × rule.Stored (links a) k i)
+  pub products : productsIn (links a) (blocks a) ≡ length (triples (links a) (blocks a))
 
 -- each buffer but L's row table has exactly what it needs
 pub record Exact (a : Night) (b : Places) : Type 0 where

@@ -6,7 +6,7 @@ use mathlib.Core.Path.{_≡_}
 use lib.Dec.{ltb}
 use lib.ListN.{length, getD, take, drop}
 use lib.Seq.{slice}
-use Rattle.refusal.specs.Refusal.{Told, done, accepted, tooManyBlocks, badStarts, outOfRange, notIncreasing, shortBuffer, shapesDisagree, firstOf, verdictAfter, after}
+use Rattle.refusal.specs.Refusal.{Told, done, accepted, tooManyBlocks, badStarts, outOfRange, badParent, notIncreasing, shortBuffer, shapesDisagree, firstOf, verdictAfter, after}
 use Rattle.refusal.specs.Check.{needCheck}
 use Rattle.tables.specs.Verdict.{treeVerdict}
 use Rattle.reach.specs.Reach.{State, markOf, reachOf}
@@ -19,7 +19,7 @@ told (Accepted m) = accepted (m .mark ∷ m .top ∷ []) []
 told Blocks = tooManyBlocks
 told (Starts place) = badStarts place
 told (Row place) = outOfRange place
-told (Parent place) = outOfRange place
+told (Parent place) = badParent place
 told (Order place) = notIncreasing place
 told (Short which need) = shortBuffer which need
 told (Past place) = shapesDisagree place

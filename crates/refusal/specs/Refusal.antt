@@ -36,9 +36,13 @@ badStarts place = tells 3 (place ∷ []) []
 abbrev pub tooManyStored : Told
 tooManyStored = tells 4 [] []
 
--- 5: a row or a parent outside its range: the place
+-- 5: a row outside its range: the place in the row table
 abbrev pub outOfRange : ℕ → Told
 outOfRange place = tells 5 (place ∷ []) []
+
+-- 5: a parent outside its range: the block, and 1, which tells it from a row
+abbrev pub badParent : ℕ → Told
+badParent block = tells 5 (block ∷ 1 ∷ []) []
 
 -- 6: rows of a column not strictly increasing: the place
 abbrev pub notIncreasing : ℕ → Told

@@ -13,6 +13,7 @@ use Rattle.graph.specs.Sets.{elem, from, between, sum}
 use Rattle.graph.specs.Symbolic.{reach, rows}
 use Rattle.graph.specs.Count.{productsOf}
 use Rattle.graph.proofs.SetLaws.{between-elim, between-intro, between-inc, inc-uniq}
+use Rattle.graph.proofs.CountLaws.{same-test}
 use Rattle.graph.proofs.SumLaws.{sum-ext, sum-swap, weigh, sum-weights}
 use Rattle.graph.proofs.SymbolicLaws.{rows-right, rows-ascending}
 use Rattle.buckets.proofs.Laws.{sum-snoc}
@@ -117,12 +118,6 @@ module _ (sizes : List ℕ) (j : ℕ) where
       sums s n x e f = omega arith
 
 -- ---- by rows, or by columns
-
-same-test : (a b : Bool) → (T a → T b) → (T b → T a) → a ≡ b
-same-test true true f g = refl
-same-test true false f g = absurd (f tt)
-same-test false true f g = absurd (g tt)
-same-test false false f g = refl
 
 module _ (linked : ℕ → ℕ → Bool) (n : ℕ) (symm : (a b : ℕ) → T (linked a b) → T (linked b a)) (f : ℕ → ℕ → ℕ) where
   -- row j: over the columns that reach it, or over all columns that have it

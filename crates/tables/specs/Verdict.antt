@@ -12,7 +12,7 @@ use lib.Dec.{leb, ltb, eqb}
 use lib.Ieee.{Float}
 use lib.ListN.{length, getD, take}
 use Rattle.graph.specs.Sets.{elem}
-use Rattle.refusal.specs.Refusal.{Told, done, verdict, tooManyBlocks, badDimension, badStarts, tooManyStored, outOfRange, notIncreasing, badValueCount, badPermutation, badLateFlags}
+use Rattle.refusal.specs.Refusal.{Told, done, verdict, tooManyBlocks, badDimension, badStarts, tooManyStored, outOfRange, badParent, notIncreasing, badValueCount, badPermutation, badLateFlags}
 use Rattle.refusal.specs.Check.{toleranceCheck}
 use Rattle.tables.specs.Search.{first, sum}
 
@@ -108,7 +108,7 @@ rowsCheck least starts rows n = faultIn (rowFits least starts rows n) (length ro
 
 -- 5: each parent none or a greater block
 unfoldable pub parentsCheck : (parents : List ℕ) → Told
-parentsCheck parents = faultIn (parentOk parents) (length parents) outOfRange
+parentsCheck parents = faultIn (parentOk parents) (length parents) badParent
 
 -- 6: the rows of a column strictly increasing
 unfoldable pub orderCheck : (starts rows : List ℕ) → (n : ℕ) → Told

@@ -1,5 +1,5 @@
 -- What the outcome of each call says, in document 01's words. Assumes nothing.
-use Rattle.refusal.specs.Refusal.{Told, done, tooManyBlocks, badStarts, outOfRange, notIncreasing}
+use Rattle.refusal.specs.Refusal.{Told, done, tooManyBlocks, badStarts, outOfRange, badParent, notIncreasing}
 use Rattle.upper_checks.specs.declared.Upper.{Upper}
 use Rattle.upper_checks.specs.declared.Upper.the-variants as upper
 use Rattle.upper_checks.specs.declared.Tree.{Tree}
@@ -19,5 +19,5 @@ toldTree (tree.Accepted w) = done
 toldTree tree.Blocks = tooManyBlocks
 toldTree (tree.Starts place) = badStarts place
 toldTree (tree.Row place) = outOfRange place
-toldTree (tree.Parent place) = outOfRange place
+toldTree (tree.Parent place) = badParent place
 toldTree (tree.Order place) = notIncreasing place

@@ -8,14 +8,14 @@ use borrow.Author.Needs.{needs}
 use lib.ListN.{length, take, drop}
 use lib.Dec.{T}
 use lib.Seq.{length-take-le, take-at}
-use Rattle.graph.specs.Links.{rowsIn}
+use Rattle.graph.specs.Links.{rowsIn, linkedOf}
 use Rattle.graph.proofs.Whole.{linked-symm}
 use Rattle.graph.specs.Order.{moved}
 use Rattle.graph.proofs.OrderLaws.{moved-permutes}
 use Rattle.elimination_tree.specs.Tree.{Pattern, Ascends, linkedUp}
 use Rattle.order.specs.Order.{sizesOf}
 use Rattle.symbolic.specs.Columns.{Sized}
-use Rattle.analysis.specs.Plan.{linkedOf, Analyzed}
+use Rattle.analysis.specs.Plan.{Analyzed}
 use Rattle.analysis.proofs.Laws.{sized}
 use Rattle.analysis.proofs.Same.{pattern-of, ascends-of, said}
 use Rattle.analysis.proofs.core.analyze.Statement.{statement}
