@@ -1,4 +1,4 @@
-// 11 of document 01: of the buffers that a call is lent, the first that is shorter than its need. Every call's needs are one list.
+// 11 of document 01: of the buffers that a call is lent, the first that is shorter than its need. A call's needs are one list.
 use refusal::Worked;
 ghost use mathlib.Core.Path.{_≡_};
 ghost use Rattle.refusal.specs.Refusal.{verdict};

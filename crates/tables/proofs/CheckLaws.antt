@@ -8,7 +8,7 @@ use lib.Dec.{ltb}
 use lib.Ieee.{Float}
 use lib.ListN.{length}
 use Rattle.scalar.specs.Scalar.{isTolerance}
-use Rattle.refusal.specs.Refusal.{Told, done, refuses, verdict, tooManyBlocks, badDimension, badStarts, tooManyStored, outOfRange, notIncreasing, badValueCount, badPermutation, badLateFlags, badTolerance}
+use Rattle.refusal.specs.Refusal.{Told, done, refuses, verdict, tooManyBlocks, badDimension, badStarts, tooManyStored, outOfRange, badParent, notIncreasing, badValueCount, badPermutation, badLateFlags, badTolerance}
 use Rattle.refusal.specs.Check.{toleranceCheck}
 use Rattle.refusal.proofs.Laws.{verdict-stops, verdict-goes}
 use Rattle.tables.specs.Search.{first}
@@ -124,17 +124,17 @@ module _ (least : ℕ → ℕ) (starts rows : List ℕ) (n : ℕ) where
   rows-pass h = fault-passes (rowFits least starts rows n) (length rows) outOfRange (λ k. refl) h
 
 module _ (parents : List ℕ) where
-  pub parents-stop : (k : ℕ) → k ≡ first (parentOk parents) 0 (length parents) → k < length parents → parentsCheck parents ≡ outOfRange k
+  pub parents-stop : (k : ℕ) → k ≡ first (parentOk parents) 0 (length parents) → k < length parents → parentsCheck parents ≡ badParent k
   unfolding parentsCheck
-  parents-stop k e h = fault-at (parentOk parents) (length parents) outOfRange k e h
+  parents-stop k e h = fault-at (parentOk parents) (length parents) badParent k e h
 
   pub parents-go : (k : ℕ) → k ≡ first (parentOk parents) 0 (length parents) → length parents ≤ k → parentsCheck parents ≡ done
   unfolding parentsCheck
-  parents-go k e h = fault-none (parentOk parents) (length parents) outOfRange k e h
+  parents-go k e h = fault-none (parentOk parents) (length parents) badParent k e h
 
   pub parents-pass : refuses (parentsCheck parents) ≡ false → length parents ≤ first (parentOk parents) 0 (length parents)
   unfolding parentsCheck
-  parents-pass h = fault-passes (parentOk parents) (length parents) outOfRange (λ k. refl) h
+  parents-pass h = fault-passes (parentOk parents) (length parents) badParent (λ k. refl) h
 
 -- ---- 6
 
