@@ -12,6 +12,7 @@ const ROUNDS: usize = 9;
 const CALLS: usize = 20_000;
 const TOLERANCE: f64 = 1e-12;
 
+#[link(name = "c_abi", kind = "static")]
 unsafe extern "C" {
     fn beyqaloosh_sub_mat_diag_mat_t_inplace(
         m: usize, n: usize, k: usize,

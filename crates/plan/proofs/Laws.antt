@@ -181,7 +181,7 @@ module _ (a : Night) (b b′ : Places) (r : Planned) (x : Exact a b) (z : Zeros 
         upper = z .upper ∙ exact (length (a .rows)) (b .upper) _ (x .upper);
         liu = λ passes. absurd (false≢true (sym passes ∙ also));
         path = path-rule a;
-      products = all-products a;
+        products = all-products a;
       }
 
   -- it is long enough
@@ -209,7 +209,7 @@ module _ (a : Night) (b b′ : Places) (r : Planned) (x : Exact a b) (z : Zeros 
         upper = z .upper ∙ exact (length (a .rows)) (b .upper) _ (x .upper);
         liu = λ _ k h. subst (λ (t : List ℕ). Parent (links a) (blocks a) k (decode (getD t k 0))) (sym (p ∙ sym (append-nil _))) (liu-parents a [] few k h);
         path = path-rule a;
-      products = all-products a;
+        products = all-products a;
       }
 
 -- ---- in the first places of longer buffers
