@@ -2,11 +2,28 @@
 use std::{collections::BTreeMap, fmt::Write};
 
 use crate::plan_cases::{KINDS, cases};
-use crate::plans::{Answer, Call, Case, run};
+use crate::plans::{Answer, Call, Case, Walks, run};
 
 const HEAD: usize = 27;
 
+/// A tree and walks: starts and rows of the upper pattern, the parents, and for each block the length of its list and the list.
+fn walk_words(kind: usize, walks: &Walks) -> Vec<u32> {
+    let mut w = vec![kind as u32, 0, walks.starts.len() as u32, walks.rows.len() as u32];
+    w.resize(HEAD, 0);
+    for slice in [&walks.starts, &walks.rows, &walks.parents] {
+        w.extend(slice);
+    }
+    for reach in &walks.reaches {
+        w.push(reach.len() as u32);
+        w.extend(reach);
+    }
+    w
+}
+
 fn words(case: &Case, answer: &Answer) -> Vec<u32> {
+    if let Some(walks) = &answer.walks {
+        return walk_words(case.kind, walks);
+    }
     let t = &case.tables;
     let inputs = [&t.dims, &t.starts, &t.rows, &t.perm, &t.late];
     let mut w = vec![case.kind as u32];
@@ -18,6 +35,7 @@ fn words(case: &Case, answer: &Answer) -> Vec<u32> {
             w.extend([values, bits as u32, (bits >> 32) as u32]);
             w.extend([0; 9]);
         }
+        Call::Walks => unreachable!(),
     }
     let (number, first, second) = answer.refusal.unwrap_or_default();
     w.extend([number, first, second, answer.cleared as u32]);

@@ -29,6 +29,8 @@ pub enum Call {
     Plan { over: [i64; BUFFERS] },
     /// The check of a system with so many values and this tolerance.
     System { values: u32, tolerance: f64 },
+    /// The tree of the permuted pattern, and a walk for each of its blocks.
+    Walks,
 }
 
 #[derive(Clone)]
@@ -48,6 +50,14 @@ pub struct Plan {
     pub products: u64,
 }
 
+/// The upper pattern of a permuted matrix, the parents of its blocks, and what a walk for each gives, in the order of its list.
+pub struct Walks {
+    pub starts: Vec<u32>,
+    pub rows: Vec<u32>,
+    pub parents: Vec<u32>,
+    pub reaches: Vec<Vec<u32>>,
+}
+
 /// A refusal's number with its place, or with the buffer and its need.
 pub type Refusal = (u32, u32, u32);
 
@@ -56,6 +66,7 @@ pub struct Answer {
     pub lent: [u32; BUFFERS],
     pub refusal: Option<Refusal>,
     pub plan: Option<Plan>,
+    pub walks: Option<Walks>,
     /// Whether the scratch ends as zeros.
     pub cleared: bool,
 }
@@ -133,7 +144,11 @@ pub fn run(case: &Case) -> Answer {
             if refusal.is_none() && !(tolerance.is_finite() && *tolerance >= 0.0) {
                 refusal = Some((10, 0, 0));
             }
-            Answer { lent: [0; BUFFERS], refusal, plan: None, cleared: false }
+            Answer { lent: [0; BUFFERS], refusal, plan: None, walks: None, cleared: false }
+        }
+        Call::Walks => {
+            let walks = Some(walked(&case.tables));
+            Answer { lent: [0; BUFFERS], refusal: None, plan: None, walks, cleared: false }
         }
         Call::Plan { over } => {
             let mut refusal = refused(&case.tables, None);
@@ -149,7 +164,7 @@ pub fn run(case: &Case) -> Answer {
                 refusal = which.map(|b| (11, b as u32, needs[b] as u32));
                 cleared = known.is_none();
             }
-            Answer { lent, plan: plan.filter(|_| refusal.is_none()), refusal, cleared }
+            Answer { lent, plan: plan.filter(|_| refusal.is_none()), walks: None, refusal, cleared }
         }
     }
 }
@@ -188,6 +203,29 @@ pub fn matrix(t: &Tables) -> BlockSparseMatrix {
     made
 }
 
+fn words(xs: &[usize]) -> Vec<u32> {
+    xs.iter().map(|&x| x as u32).collect()
+}
+
+fn parents_of(etree: &EliminationTree) -> Vec<u32> {
+    etree.parent_array().iter().map(|p| p.map_or(NONE, |p| p.get() as u32)).collect()
+}
+
+/// The source's upper pattern, tree and walks of tables that are right; one tree walks for all blocks.
+fn walked(t: &Tables) -> Walks {
+    let a_lower = matrix(t);
+    let (order, inverse) = block_sparse_ldlt::order(&a_lower, t.perm.iter().map(|&k| k as usize).collect());
+    let (_, a_lower_perm) = block_sparse_ldlt::permute(&a_lower, &order, &inverse);
+    let upper = a_lower_perm.build_pattern_upper();
+    let mut etree = EliminationTree::new(upper.clone());
+    Walks {
+        starts: words(upper.storage_idx_by_col()),
+        rows: words(upper.row_idx_storage()),
+        parents: parents_of(&etree),
+        reaches: (0..t.dims.len()).map(|j| words(etree.reach(j))).collect(),
+    }
+}
+
 /// The source's plan of tables that are right.
 fn planned(t: &Tables) -> Plan {
     let a_lower = matrix(t);
@@ -197,11 +235,10 @@ fn planned(t: &Tables) -> Plan {
     let scalars = block_sparse_ldlt::scalars(&a_lower.subdivision, &order, &flat_sub);
     assert_eq!(scalars.len(), t.dims.iter().sum::<u32>() as usize);
     let mut etree = EliminationTree::new(a_lower_perm.build_pattern_upper());
-    let parents = etree.parent_array().iter().map(|p| p.map_or(NONE, |p| p.get() as u32)).collect();
+    let parents = parents_of(&etree);
     let products = products(&a_lower_perm, &mut etree, &l_col_rows);
     let [height, width] = l_region_nf.size();
     let regions = (0..height).flat_map(|i| (0..width).map(move |j| [i, j]));
-    let words = |xs: &[usize]| xs.iter().map(|&x| x as u32).collect::<Vec<u32>>();
     let mut l_starts = vec![0];
     for column in &l_col_rows {
         l_starts.push(l_starts[l_starts.len() - 1] + column.len() as u32);

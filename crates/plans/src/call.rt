@@ -5,6 +5,7 @@ use crate::told::of_plan;
 use crate::told::of_system;
 use crate::told::size;
 use crate::told::whole;
+use crate::walks::walked;
 use crate::words;
 use replay::number;
 ghost use mathlib.Core.Path.{_≡_};
@@ -20,8 +21,10 @@ const L_ROWS: usize = 131072;
 
 const VALUES: usize = 4096;
 
-// The kind of a check of a system.
+// The kinds of a check of a system and of a tree with its walks.
 const SYSTEM: usize = 14;
+
+const WALKS: usize = 15;
 
 // What a turn at the list comes to.
 pub enum Turn {
@@ -58,6 +61,9 @@ fn judge(kind: usize, h: &[u32; 26]) -> bool {
     if kind == SYSTEM {
         return system(h);
     }
+    if kind == WALKS {
+        return walked(h);
+    }
     planned(h)
 }
 
@@ -75,7 +81,10 @@ fn fits(kind: usize, h: &[u32; 26]) -> bool {
 fn lengths(kind: usize) -> usize
     ensures { λ r. ⌜ r ≤ 17 ⌝ }
 {
-    if kind == SYSTEM { 5 } else { 17 }
+    match kind {
+        SYSTEM | WALKS => 5,
+        _ => 17,
+    }
 }
 
 // The room for table or buffer k: rows, table and upper are as long as the stored blocks, l_rows as L's.
@@ -88,7 +97,7 @@ fn room(k: usize) -> usize {
 }
 
 // The length, at most 4,112.
-fn of_blocks(n: u32) -> usize
+pub fn of_blocks(n: u32) -> usize
     ensures { λ r. ⌜ r ≤ 4112 ⌝ }
 {
     let k = n as usize;
@@ -120,7 +129,7 @@ fn of_values(n: u32) -> usize
 }
 
 // The next words of the list as a table of blocks.
-fn blocks(upto: usize) -> [u32; 4112]
+pub fn blocks(upto: usize) -> [u32; 4112]
     ensures { λ r. ⌜ 4112 ≡ length r ⌝ }
 {
     let mut x = [0u32; 4112];
@@ -138,7 +147,7 @@ fn stored(upto: usize) -> [u32; 65552]
 }
 
 // A buffer of blocks, marked.
-fn lent_blocks() -> [u32; 4112]
+pub fn lent_blocks() -> [u32; 4112]
     ensures { λ r. ⌜ 4112 ≡ length r ⌝ }
 {
     let mut x = [0u32; 4112];
@@ -329,7 +338,7 @@ fn scratch_stored(h: &[u32; 26], table: &[u32; 65552], upper: &[u32; 65552]) -> 
 }
 
 // Zeros up to the need, and marks beyond.
-fn scratch(a: &[u32], need: usize) -> bool {
+pub fn scratch(a: &[u32], need: usize) -> bool {
     if !words::zeros(a, need) {
         return false;
     }

@@ -3,6 +3,7 @@
 mod call;
 mod print;
 mod told;
+mod walks;
 mod words;
 
 use crate::call::Turn;
@@ -11,15 +12,15 @@ use crate::call::Turn;
 const MOST: u64 = 65536;
 
 fn main() {
-    let mut cases = [0u64; 15];
-    let mut right = [0u64; 15];
+    let mut cases = [0u64; 16];
+    let mut right = [0u64; 16];
     if replay(&mut cases, &mut right) {
         print::summary(&cases, &right);
     }
 }
 
 // Every case to the end of the list, counted at its kind. False where the list is bad.
-fn replay(cases: &mut [u64; 15], right: &mut [u64; 15]) -> bool {
+fn replay(cases: &mut [u64; 16], right: &mut [u64; 16]) -> bool {
     let mut k: u64 = 0;
     while k < MOST {
         k += 1;
@@ -44,8 +45,8 @@ fn replay(cases: &mut [u64; 15], right: &mut [u64; 15]) -> bool {
     false
 }
 
-fn tally(counts: &mut [u64; 15], kind: usize) {
-    if kind < 15 {
+fn tally(counts: &mut [u64; 16], kind: usize) {
+    if kind < 16 {
         counts[kind] = more(counts[kind]);
     }
 }

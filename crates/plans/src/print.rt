@@ -4,8 +4,8 @@ use io::write_all;
 use libc::STDOUT_FILENO;
 
 // A line for each kind, one for all, and the verdict.
-pub fn summary(cases: &[u64; 15], right: &[u64; 15]) {
-    for kind in 1..15usize {
+pub fn summary(cases: &[u64; 16], right: &[u64; 16]) {
+    for kind in 1..16usize {
         name(kind);
         counts(cases[kind], right[kind]);
     }
@@ -20,9 +20,9 @@ pub fn summary(cases: &[u64; 15], right: &[u64; 15]) {
     }
 }
 
-fn total(counts: &[u64; 15]) -> u64 {
+fn total(counts: &[u64; 16]) -> u64 {
     let mut all: u64 = 0;
-    for kind in 1..15usize {
+    for kind in 1..16usize {
         all = sum(all, counts[kind]);
     }
     all
@@ -78,7 +78,8 @@ fn name_other(kind: usize) {
         11 => write_all(STDOUT_FILENO, b"one fault"),
         12 => write_all(STDOUT_FILENO, b"two faults"),
         13 => write_all(STDOUT_FILENO, b"lent buffers"),
-        _ => write_all(STDOUT_FILENO, b"check of a system"),
+        14 => write_all(STDOUT_FILENO, b"check of a system"),
+        _ => write_all(STDOUT_FILENO, b"tree and walks"),
     }
     ;
 }

@@ -1,5 +1,6 @@
 // The words of the list, 32 bits each, little-endian: read into a table, or compared with one. And the marks that a lent buffer
 // has before a call.
+use crate::told::size;
 use libc::STDIN_FILENO;
 ghost use Prim.Native.Nat.{_<_, _≤_};
 
@@ -65,6 +66,53 @@ pub fn listed(a: &[u32], upto: usize) -> bool {
         }
     }
     same
+}
+
+// Whether the places `from` to `to` hold the words of the list that comes next: its length, then so many words, which are read in any
+// case.
+pub fn listed_between(a: &[u32], from: usize, to: usize) -> bool {
+    let count = size(next().value);
+    let mut same = spans(from, count, to);
+    for k in 0..count {
+        let w = next();
+        if !is_at(a, plus(from, k), w) {
+            same = false;
+        }
+    }
+    same
+}
+
+// Whether it is `count` places from one to the other.
+fn spans(from: usize, count: usize, to: usize) -> bool {
+    if to < from {
+        return false;
+    }
+    to - from == count
+}
+
+// The place k after another, or the last there can be.
+fn plus(from: usize, k: usize) -> usize {
+    if k <= usize::MAX - from {
+        from + k
+    } else {
+        usize::MAX
+    }
+}
+
+// Whether the first `upto` places are there and hold the same.
+pub fn same(a: &[u32], b: &[u32], upto: usize) -> bool {
+    if upto > a.len() {
+        return false;
+    }
+    if upto > b.len() {
+        return false;
+    }
+    for k in 0..upto {
+        if a[k] != b[k] {
+            return false;
+        }
+    }
+    true
 }
 
 fn is_at(a: &[u32], k: usize, w: Word) -> bool {

@@ -5,10 +5,10 @@ use Rattle.plans.proofs.print.total.Statement.{statement}
 use Rattle.plans.proofs.print.total.Tie as tie
 
 abbrev Inv-loop : tie.InvT-loop
-Inv-loop counts all₀ kind₀ all kind = kind ≤ 15
+Inv-loop counts all₀ kind₀ all kind = kind ≤ 16
 
 abbrev μ-loop : tie.MeasureT-loop
-μ-loop counts all₀ kind₀ all kind = 15 - kind
+μ-loop counts all₀ kind₀ all kind = 16 - kind
 
 pub total-spec : {M : Type 1} → statement M
 total-spec =
