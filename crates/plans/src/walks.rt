@@ -49,7 +49,12 @@ fn grows(n: usize, starts: &[u32], rows: &[u32], expected: &[u32; 4112]) -> bool
     has_grown(n, &parents, &ancestors, expected)
 }
 
-fn has_grown(n: usize, parents: &[u32; 4112], ancestors: &[u32; 4112], expected: &[u32; 4112]) -> bool {
+fn has_grown(
+    n: usize,
+    parents: &[u32; 4112],
+    ancestors: &[u32; 4112],
+    expected: &[u32; 4112],
+) -> bool {
     if !words::same(parents, expected, n) {
         return false;
     }
