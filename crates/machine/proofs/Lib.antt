@@ -2,3 +2,4 @@
 pub mod ListLaws
 pub mod StepLaws
 pub mod RunLaws
+pub mod Nights
