@@ -3,3 +3,5 @@ pub mod ListLaws
 pub mod StepLaws
 pub mod RunLaws
 pub mod Nights
+pub mod ReachLocal
+pub mod Local

@@ -9,7 +9,7 @@ use Rattle.graph.specs.Path.{Stored}
 use Rattle.graph.specs.Count.{productsOf}
 use Rattle.order.specs.Order.{sizesOf}
 use Rattle.machine.specs.System.{System, blocks, links, order, loadedRow}
-use Rattle.machine.specs.Machine.{Column, State, columnAt, rowsAt, reached, Made, made, refused}
+use Rattle.machine.specs.Machine.{Column, State, columnAt, rowsAt, reached, Made, made, refused, madeOf}
 
 -- ---- demand 3, of the last state of an accepted run
 
@@ -38,8 +38,8 @@ SameMade (refused t) (refused t′) = t ≡ t′
 SameMade (made c) (refused t′) = ⊥
 SameMade (refused t) (made c′) = ⊥
 
--- Before column j two machines agree on what it depends on: the dimensions and the tolerance, the loaded column j, the blocks before j that
--- are linked to it, from which the walk starts, and the finished columns that reach it. On nothing else: not on other columns, other values, or the triples.
+-- Before column j two machines agree on what it depends on: the dimensions and the tolerance, the loaded column j, which blocks before j are
+-- linked to it, where the walk starts, and the finished columns that reach it. Other columns, other values and the triples may differ.
 pub record Agree (j : ℕ) (a : System) (s : State) (a′ : System) (s′ : State) : Type 0 where
   pub count : blocks a ≡ blocks a′
   pub sizes : sizesOf (a .dims) (order a) ≡ sizesOf (a′ .dims) (order a′)
@@ -47,3 +47,7 @@ pub record Agree (j : ℕ) (a : System) (s : State) (a′ : System) (s′ : Stat
   pub loaded : (i : ℕ) → j ≤ i → i < blocks a → loadedRow a j i ≡ loadedRow a′ j i
   pub linked : (i : ℕ) → i < j → links a i j ≡ links a′ i j
   pub reaching : (k : ℕ) → T (elem k (reached a j s)) → Same (columnAt s k) (columnAt s′ k)
+
+-- Then the same becomes of column j in both.
+abbrev pub Locality : Type 0
+Locality = (j : ℕ) (a a′ : System) (s s′ : State) → j < blocks a → Agree j a s a′ s′ → SameMade (madeOf a j s) (madeOf a′ j s′)

@@ -148,6 +148,10 @@ settledBy a j s (Poor condition, unit, d) = refused (poorlyConditioned j conditi
 unfoldable pub finish : System → ℕ → State → Made
 finish a j s = settledBy a j s (blockLdlt (dim a j) (a .tol) (bodyOr (dim a j * dim a j) (s .work j)))
 
+-- all of this: what becomes of column j
+abbrev pub madeOf : System → ℕ → State → Made
+madeOf a j s = finish a j (worked a j s)
+
 -- ---- the run
 
 -- the machine between two columns, or the refusal at which it stopped
@@ -162,7 +166,7 @@ stored s (refused t) = stopped t
 
 -- column j, from the load to the store
 unfoldable pub workColumn : System → ℕ → Run → Run
-workColumn a j (going s) = stored (worked a j s) (finish a j (worked a j s))
+workColumn a j (going s) = stored (worked a j s) (madeOf a j s)
 workColumn a j (stopped t) = stopped t
 
 abbrev pub start : State
