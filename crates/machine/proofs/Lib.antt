@@ -5,3 +5,4 @@ pub mod RunLaws
 pub mod Nights
 pub mod ReachLocal
 pub mod Local
+pub mod RunLocal

@@ -81,12 +81,12 @@ module _ (dim : ℕ → ℕ) where
 
 module _ (j : ℕ) (a a′ : System) (s s′ : State) (lt : j < blocks a) (g : Agree j a s a′ s′) where
   same-dim : dim a ≡ dim a′
-  same-dim = ap {B = ℕ → ℕ} (λ l p. getD l p 0) (g .sizes)
+  same-dim = ap {B = ℕ → ℕ} (λ l p. getD l p 0) (g .given .sizes)
 
   same-reached : reached a j s ≡ reached a′ j s′
   same-reached =
-      reach-local (links a) (links a′) (blocks a) (parentAt s) (parentAt s′) j (g .linked) (λ k m. ap first (g .reaching k m .rows))
-      ∙ ap (λ (n : ℕ). reach (links a′) n (parentAt s′) j) (g .count)
+      reach-local (links a) (links a′) (blocks a) (parentAt s) (parentAt s′) j (g .given .linked) (λ k m. ap first (g .reaching k m .rows))
+      ∙ ap (λ (n : ℕ). reach (links a′) n (parentAt s′) j) (g .given .count)
 
   -- the columns that work on j
   abbrev by : List ℕ
@@ -116,14 +116,14 @@ module _ (j : ℕ) (a a′ : System) (s s′ : State) (lt : j < blocks a) (g : A
   same-work : (i : ℕ) → j ≤ i → i < blocks a → worked a j s .work i ≡ worked a′ j s′ .work i
   unfolding load
   same-work i le h =
-      products-local (dim a) (sequence a j s) (load a j s) (load a′ j s′) all-alike i (g .loaded i le h)
+      products-local (dim a) (sequence a j s) (load a j s) (load a′ j s′) all-alike i (g .given .loaded i le h)
       ∙ ap₂ {C = Option (List Float)} (λ d ts. products d ts (load a′ j s′) .work i) same-dim same-sequence
 
   -- its diagonal block, decomposed
   same-factor : blockLdlt (dim a j) (a .tol) (bodyOr (dim a j * dim a j) (worked a j s .work j)) ≡ blockLdlt (dim a′ j) (a′ .tol) (bodyOr (dim a′ j * dim a′ j) (worked a′ j s′ .work j))
   same-factor =
       ap (λ (w : Option (List Float)). blockLdlt (dim a j) (a .tol) (bodyOr (dim a j * dim a j) w)) (same-work j (omega arith) lt)
-      ∙ ap₂ {C = Settled × List Float × List Float} (λ d t. blockLdlt (d j) t (bodyOr (d j * d j) (worked a′ j s′ .work j))) same-dim (g .tol)
+      ∙ ap₂ {C = Settled × List Float × List Float} (λ d t. blockLdlt (d j) t (bodyOr (d j * d j) (worked a′ j s′ .work j))) same-dim (g .given .tol)
 
   -- its rows, right-solved
   same-solved : (unit d : List Float) → Same (solved a j (worked a j s) unit d) (solved a′ j (worked a′ j s′) unit d)
@@ -132,7 +132,7 @@ module _ (j : ℕ) (a a′ : System) (s s′ : State) (lt : j < blocks a) (g : A
       record {
         rows = filter-ext (λ i. touched (worked a j s .work i)) (λ i. touched (worked a′ j s′ .work i)) (between (suc j) (blocks a))
             (λ i m. let b = in-range i m in ap touched (same-work i (omega arith) (b .1)))
-            ∙ ap (λ (n : ℕ). filter (λ i. touched (worked a′ j s′ .work i)) (between (suc j) n)) (g .count);
+            ∙ ap (λ (n : ℕ). filter (λ i. touched (worked a′ j s′ .work i)) (between (suc j) n)) (g .given .count);
         body = λ i m.
             let b = in-range i (filter-elim (λ i. touched (worked a j s .work i)) i (between (suc j) (blocks a)) m .0) in
             ap (λ (w : Option (List Float)). ldltRightMatsolve (dim a i) (dim a j) unit d (bodyOr (dim a i * dim a j) w)) (same-work i (omega arith) (b .1))

@@ -68,6 +68,10 @@ module _ (a : System) where
     all-store : filter (λ k. elem j (byCols j k)) (reachedIn j) ≡ reachedIn j
     all-store = filter-all (λ k. elem j (byCols j k)) (reachedIn j) (λ k m. let r = iff k .0 m in right k (r .0) .complete j (r .0) lt (r .1))
 
+    -- what reaches j stands before it
+    pub reached-before : (s : State) → rowLists s ≡ cols j → (k : ℕ) → T (elem k (reached a j s)) → k < j
+    reached-before s e k m = iff k .0 (subst (λ (f : ℕ → List ℕ). T (elem k (reach (links a) n (λ k. first (f k)) j))) (same-rows j s e) m) .0
+
     -- the machine's products are those of the theory, in their order
     pub sequence-is : (s : State) → rowLists s ≡ cols j → sequence a j s ≡ columnTriples (links a) n j
     unfolding sequence columnTriples

@@ -1,5 +1,6 @@
 -- What is claimed of the machine: demand 3, and the law of locality. Assumes nothing.
 use Prim.Native.Nat.{ℕ, _≤_, _<_}
+use mathlib.Core.Bool.{Bool}
 use mathlib.Core.Logic.{_↔_}
 use mathlib.Core.Path.{_≡_}
 use lib.Dec.{T}
@@ -9,7 +10,7 @@ use Rattle.graph.specs.Path.{Stored}
 use Rattle.graph.specs.Count.{productsOf}
 use Rattle.order.specs.Order.{sizesOf}
 use Rattle.machine.specs.System.{System, blocks, links, order, loadedRow}
-use Rattle.machine.specs.Machine.{Column, State, columnAt, rowsAt, reached, Made, made, refused, madeOf}
+use Rattle.machine.specs.Machine.{Column, State, columnAt, rowsAt, reached, Made, made, refused, madeOf, going, run}
 
 -- ---- demand 3, of the last state of an accepted run
 
@@ -38,16 +39,32 @@ SameMade (refused t) (refused t′) = t ≡ t′
 SameMade (made c) (refused t′) = ⊥
 SameMade (refused t) (made c′) = ⊥
 
--- Before column j two machines agree on what it depends on: the dimensions and the tolerance, the loaded column j, which blocks before j are
--- linked to it, where the walk starts, and the finished columns that reach it. Other columns, other values and the triples may differ.
-pub record Agree (j : ℕ) (a : System) (s : State) (a′ : System) (s′ : State) : Type 0 where
+-- What two systems give column j is the same: the dimensions and the tolerance, the loaded column, and which blocks before j are linked to
+-- it, where the walk starts. Their other values may differ.
+pub record Given (j : ℕ) (a a′ : System) : Type 0 where
   pub count : blocks a ≡ blocks a′
   pub sizes : sizesOf (a .dims) (order a) ≡ sizesOf (a′ .dims) (order a′)
   pub tol : a .tol ≡ a′ .tol
   pub loaded : (i : ℕ) → j ≤ i → i < blocks a → loadedRow a j i ≡ loadedRow a′ j i
   pub linked : (i : ℕ) → i < j → links a i j ≡ links a′ i j
+
+-- Two machines agree on what column j depends on: this, and the finished columns that reach it. Other columns and the triples may differ.
+pub record Agree (j : ℕ) (a : System) (s : State) (a′ : System) (s′ : State) : Type 0 where
+  pub given : Given j a a′
   pub reaching : (k : ℕ) → T (elem k (reached a j s)) → Same (columnAt s k) (columnAt s′ k)
 
--- Then the same becomes of column j in both.
+-- The law: where they agree before column j, the same becomes of it in both, a refusal included.
 abbrev pub Locality : Type 0
 Locality = (j : ℕ) (a a′ : System) (s s′ : State) → j < blocks a → Agree j a s a′ s′ → SameMade (madeOf a j s) (madeOf a′ j s′)
+
+-- The same of two accepted runs, by their last states.
+abbrev pub RunLocality : Type 0
+RunLocality = (a a′ : System) (s s′ : State) → run a ≡ going s → run a′ ≡ going s′ → (j : ℕ) → j < blocks a → Agree j a s a′ s′ → Same (columnAt s j) (columnAt s′ j)
+
+-- So a site, a set of columns that no other column reaches, is the same in both where the two systems give it the same.
+abbrev pub SiteLocality : Type 0
+SiteLocality =
+    (a a′ : System) (s s′ : State) → run a ≡ going s → run a′ ≡ going s′ → (site : ℕ → Bool)
+    → ((j k : ℕ) → j < blocks a → T (site j) → T (elem k (reached a j s)) → T (site k))
+    → ((j : ℕ) → j < blocks a → T (site j) → Given j a a′)
+    → (j : ℕ) → j < blocks a → T (site j) → Same (columnAt s j) (columnAt s′ j)
