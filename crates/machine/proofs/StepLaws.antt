@@ -1,5 +1,5 @@
 -- What each step of the machine does to the finished columns, to the touched rows and to the list of triples. Assumes nothing.
-use Prim.Native.Nat.{ℕ}
+use Prim.Native.Nat.{ℕ, _+_}
 use mathlib.Core.Bool.{Bool, true, false, cond, _||_}
 use mathlib.Core.List.{List, [], _∷_, _++_, map, append-assoc, append-nil}
 use mathlib.Core.Option.{Option, none, some}
@@ -7,13 +7,13 @@ use mathlib.Core.Path.{_≡_, refl, sym, ap, _∙_}
 use native.Mathlib.Omega.{arith}
 use lib.Dec.{eqb}
 use lib.Ieee.{Float}
-use lib.ListN.{getD, List·getD-map}
+use lib.ListN.{length, getD, length-append, List·getD-map}
 use Rattle.block_diag_ldlt.specs.Block.{blockLdlt}
 use Rattle.block_diag_ldlt.specs.declared.core.Settled.{Settled}
 use Rattle.block_diag_ldlt.specs.declared.core.Settled.the-variants.{Accepted, NotFinite, Poor}
 use Rattle.refusal.specs.Refusal.{Told}
 use Rattle.graph.specs.Sets.{elem}
-use Rattle.graph.specs.Count.{Triple}
+use Rattle.graph.specs.Count.{Triple, triple}
 use Rattle.machine.specs.System.{System, dim}
 use Rattle.machine.specs.Machine.{State, Column, noColumn, rowsAt, touched, bodyOr, product, products, Made, made, refused, solved, settledBy, finish, going, stored}
 use Rattle.machine.proofs.ListLaws.{worksOn}
@@ -28,6 +28,11 @@ listed s k = List·getD-map (λ (c : Column). c .rows) (s .finished) k noColumn
 -- ---- block products
 
 module _ (dim : ℕ → ℕ) where
+  -- each counts one
+  pub product-count : (i j k : ℕ) (s : State) → length (product dim i j k s .done) ≡ length (s .done) + 1
+  unfolding product
+  product-count i j k s = length-append (s .done) (triple j k i ∷ [])
+
   pub products-finished : (ts : List Triple) (s : State) → products dim ts s .finished ≡ s .finished
   unfolding products product
   products-finished [] s = refl

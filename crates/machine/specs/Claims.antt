@@ -1,16 +1,17 @@
--- What is claimed of the machine: demand 3, and the law of locality. Assumes nothing.
+-- What is claimed of the machine: demand 3, where a refused run stops, and the law of locality. Assumes nothing.
 use Prim.Native.Nat.{ℕ, _≤_, _<_}
 use mathlib.Core.Bool.{Bool}
 use mathlib.Core.Logic.{_↔_}
 use mathlib.Core.Path.{_≡_}
 use lib.Dec.{T}
 use lib.ListN.{length}
+use Rattle.refusal.specs.Refusal.{Told}
 use Rattle.graph.specs.Sets.{elem, between, sum, Inc}
 use Rattle.graph.specs.Path.{Stored}
 use Rattle.graph.specs.Count.{productsOf}
 use Rattle.order.specs.Order.{sizesOf}
 use Rattle.machine.specs.System.{System, blocks, links, order, loadedRow}
-use Rattle.machine.specs.Machine.{Column, State, columnAt, rowsAt, reached, Made, made, refused, madeOf, going, run}
+use Rattle.machine.specs.Machine.{Column, State, columnAt, rowsAt, reached, Made, made, refused, madeOf, going, stopped, runTo, run}
 
 -- ---- demand 3, of the last state of an accepted run
 
@@ -22,6 +23,16 @@ pub record Demand3 (a : System) (s : State) : Type 0 where
   pub ascending : (k : ℕ) → k < blocks a → Inc (rowsAt s k)
   -- and the block products worked through are the sum of c(c + 1)/2, c the rows of a column
   pub count : length (s .done) ≡ sum (between 0 (blocks a)) (λ k. productsOf (length (rowsAt s k)))
+
+-- ---- a refused run stops at the first column of which 13 or 14 became: those before it were made
+
+pub record StopsAt (a : System) (t : Told) (j : ℕ) (s : State) : Type 0 where
+  pub below : j < blocks a
+  pub before : runTo a j ≡ going s
+  pub refusal : madeOf a j s ≡ refused t
+
+abbrev pub Stops : Type 0
+Stops = (a : System) (t : Told) → run a ≡ stopped t ↔ ((j : ℕ) × (s : State) × StopsAt a t j s)
 
 -- ---- locality
 
