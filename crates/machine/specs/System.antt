@@ -8,13 +8,12 @@ use lib.Dec.{leb, eqb}
 use lib.ListN.{length}
 use lib.Ieee.{Float, binary64, add}
 use Rattle.graph.specs.Sets.{elem, from}
-use Rattle.graph.specs.Links.{rowsIn}
+use Rattle.graph.specs.Links.{rowsIn, linkedOf}
 use Rattle.graph.specs.Order.{moved}
 use Rattle.scalar.specs.Scalar.{nought}
 use Rattle.tables.specs.Search.{first}
 use Rattle.tables.specs.Verdict.{at}
 use Rattle.order.specs.Order.{sizesOf}
-use Rattle.analysis.specs.Plan.{linkedOf}
 use Rattle.scalars.specs.Bodies.{placeOf, permutedBody}
 
 pub record System : Type 0 where
