@@ -8,14 +8,8 @@ use native.Mathlib.Omega.{arith}
 use lib.Dec.{T, eqb, ltb, lt→ltb}
 use Rattle.graph.specs.Sets.{elem, any, keep, filter, from, gather}
 use Rattle.graph.specs.Count.{Triple, triple}
+use Rattle.graph.proofs.CountLaws.{same-test}
 use Rattle.graph.proofs.SetLaws.{elem-head, elem-tail, elem-cases, filter-elim, filter-intro}
-
--- two tests that pass together are equal
-pub same-test : (a b : Bool) → (T a → T b) → (T b → T a) → a ≡ b
-same-test true true f g = refl
-same-test true false f g = absurd (f tt)
-same-test false true f g = absurd (g tt)
-same-test false false f g = refl
 
 -- tests that agree on a list filter it alike
 pub filter-ext : (p q : ℕ → Bool) (l : List ℕ) → ((x : ℕ) → T (elem x l) → p x ≡ q x) → filter p l ≡ filter q l
