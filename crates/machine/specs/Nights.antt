@@ -166,6 +166,18 @@ wide =
       );
     }
 
+-- P2 with bodies 4, 2, 4, 2, 6: column 1 is worked in before column 0, as reach lists them
+abbrev pub fan : Row
+fan =
+    record {
+      answer = seen (run (system p2 (1 ∷ 1 ∷ 1 ∷ []) (four ∷ two ∷ four ∷ two ∷ six ∷ []) nought));
+      expected = (
+        accepted (2 ∷ []) [],
+        triple 2 1 2 ∷ triple 2 0 2 ∷ [],
+        (2 ∷ [], (half ∷ []) ∷ [], one ∷ [], four ∷ []) ∷ (2 ∷ [], (half ∷ []) ∷ [], one ∷ [], four ∷ []) ∷ ([], [], one ∷ [], four ∷ []) ∷ [],
+      );
+    }
+
 -- block 0 late: it comes second, so bodies 5, 2, 4 give the same
 abbrev pub lateFirst : Row
 lateFirst =
@@ -195,7 +207,7 @@ Hold [] = Unit
 Hold (r ∷ rs) = (r .answer ≡ r .expected) × Hold rs
 
 abbrev pub rows : List Row
-rows = sheet ∷ noughts ∷ noDiagonal ∷ wide ∷ lateFirst ∷ infinite ∷ poor ∷ []
+rows = sheet ∷ noughts ∷ noDiagonal ∷ wide ∷ fan ∷ lateFirst ∷ infinite ∷ poor ∷ []
 
 -- a body of two rows and columns that lands above the diagonal is loaded as its transpose
 abbrev pub Turned : Type 0
