@@ -39,7 +39,7 @@ counts = (one nights.p1 refl, (one nights.p2 refl, (one nights.p3 refl, (one nig
 -- how each of these runs is told, its triples, L and d
 pub hold : Hold nights.rows
 unfolding ofBits add sub mul div neg lt le eq isNan steps magnitude isFinite max min moved reach climb climbs firstFrom first sumFrom sum columnOf blockArea sizesOf placeOf transposed permutedBody subMatDiagMatT lowerRightSolve lowerTransposeRightsolve diagRightMatsolve ldltRightMatsolve dividedBy storedPivot clearUpper counted pivotsOf ldlt ldltRow blockLdlt inverseOf loaded load matProduct product products sequence settledBy finish stored workColumn runTo
-hold = (refl, (refl, (refl, (refl, (refl, tt)))))
+hold = (refl, (refl, (refl, (refl, (refl, (refl, (refl, (refl, tt))))))))
 
 pub turned : Turned
 unfolding ofBits add firstFrom first sumFrom sum columnOf blockArea moved placeOf transposed permutedBody inverseOf loaded

@@ -68,7 +68,7 @@ abbrev pub twoBlocks : (dims : List ℕ) → (values : List Float) → (perm lat
 twoBlocks dims values perm late =
     record { dims = dims; starts = 0 ∷ 2 ∷ 3 ∷ []; rows = 0 ∷ 1 ∷ 1 ∷ []; values = values; perm = perm; late = late; tol = ofBits binary64 0x3d71_9799_812d_ea11 }
 
--- the numbers 2, 3, 4, 5 and 0.5, -0.0, 1e-11 and its negative, and infinity
+-- the numbers 2, 3, 4, 5, 6 and 0.5, 0.25, -0.0, 1e-11 and its negative, and infinity
 abbrev pub two : Float
 two = ofBits binary64 0x4000_0000_0000_0000
 
@@ -81,8 +81,14 @@ four = ofBits binary64 0x4010_0000_0000_0000
 abbrev pub five : Float
 five = ofBits binary64 0x4014_0000_0000_0000
 
+abbrev pub six : Float
+six = ofBits binary64 0x4018_0000_0000_0000
+
 abbrev pub half : Float
 half = ofBits binary64 0x3fe0_0000_0000_0000
+
+abbrev pub quarter : Float
+quarter = ofBits binary64 0x3fd0_0000_0000_0000
 
 abbrev pub minusZero : Float
 minusZero = ofBits binary64 0x8000_0000_0000_0000
@@ -136,6 +142,42 @@ noughts =
       );
     }
 
+-- one body of 2 and no diagonal blocks, which count as zeros: both pivots are dropped, the product is worked through all the same
+abbrev pub noDiagonal : Row
+noDiagonal =
+    record {
+      answer = seen (run (system (record { starts = 0 ∷ 1 ∷ 1 ∷ []; rows = 1 ∷ []; perm = 0 ∷ 1 ∷ []; products = 1 }) (1 ∷ 1 ∷ []) (two ∷ []) one));
+      expected = (
+        accepted (1 ∷ []) [],
+        triple 1 0 1 ∷ [],
+        (1 ∷ [], (nought ∷ []) ∷ [], one ∷ [], nought ∷ []) ∷ ([], [], one ∷ [], nought ∷ []) ∷ [],
+      );
+    }
+
+-- a block of two scalars and one of one, of the matrix 4 2 2, 2 5 3, 2 3 6: L(1, 0) is 0.25 0.5, Q(1) is 0.5 0.5, and every d is 4
+abbrev pub wide : Row
+wide =
+    record {
+      answer = seen (run (twoBlocks (2 ∷ 1 ∷ []) (four ∷ two ∷ two ∷ five ∷ two ∷ three ∷ six ∷ []) (0 ∷ 1 ∷ []) (0 ∷ 0 ∷ [])));
+      expected = (
+        accepted (1 ∷ []) [],
+        triple 1 0 1 ∷ [],
+        (1 ∷ [], (quarter ∷ half ∷ []) ∷ [], one ∷ half ∷ nought ∷ one ∷ [], four ∷ four ∷ []) ∷ ([], [], one ∷ [], four ∷ []) ∷ [],
+      );
+    }
+
+-- P2 with bodies 4, 2, 4, 2, 6: column 1 is worked in before column 0, as reach lists them
+abbrev pub fan : Row
+fan =
+    record {
+      answer = seen (run (system p2 (1 ∷ 1 ∷ 1 ∷ []) (four ∷ two ∷ four ∷ two ∷ six ∷ []) nought));
+      expected = (
+        accepted (2 ∷ []) [],
+        triple 2 1 2 ∷ triple 2 0 2 ∷ [],
+        (2 ∷ [], (half ∷ []) ∷ [], one ∷ [], four ∷ []) ∷ (2 ∷ [], (half ∷ []) ∷ [], one ∷ [], four ∷ []) ∷ ([], [], one ∷ [], four ∷ []) ∷ [],
+      );
+    }
+
 -- block 0 late: it comes second, so bodies 5, 2, 4 give the same
 abbrev pub lateFirst : Row
 lateFirst =
@@ -165,7 +207,7 @@ Hold [] = Unit
 Hold (r ∷ rs) = (r .answer ≡ r .expected) × Hold rs
 
 abbrev pub rows : List Row
-rows = sheet ∷ noughts ∷ lateFirst ∷ infinite ∷ poor ∷ []
+rows = sheet ∷ noughts ∷ noDiagonal ∷ wide ∷ fan ∷ lateFirst ∷ infinite ∷ poor ∷ []
 
 -- a body of two rows and columns that lands above the diagonal is loaded as its transpose
 abbrev pub Turned : Type 0
