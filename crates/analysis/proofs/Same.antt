@@ -11,7 +11,7 @@ use Rattle.graph.specs.Sets.{elem, any, keep, filter, from, between, sum, gathe
 use Rattle.graph.specs.Symbolic.{climbs, reach, parents, column, columns}
 use Rattle.graph.specs.Symbolic as L
 use Rattle.graph.specs.Liu.{Forest}
-use Rattle.graph.proofs.SetLaws.{elem-head, elem-tail, filter-elim, filter-intro, filter-inc, between-elim, between-intro, between-inc}
+use Rattle.graph.proofs.SetLaws.{filter-ext, filter-elim, filter-intro, filter-inc, between-elim, between-intro, between-inc}
 use Rattle.graph.proofs.CountLaws.{same-test}
 use Rattle.graph.proofs.SumLaws.{sum-ext, filter-all}
 use Rattle.buckets.specs.Buckets.{lengths}
@@ -22,13 +22,6 @@ use Rattle.graph.specs.Count.{productsOf}
 use Rattle.symbolic.specs.Columns.{Tree, area}
 use Rattle.analysis.specs.Plan.{storedOf, startsOf, rowsOf, Analyzed}
 use Rattle.analysis.specs.declared.core.Counts.{Counts}
-
--- ---- two tests that agree
-
-filter-ext : (p q : ℕ → Bool) (l : List ℕ) → ((x : ℕ) → T (elem x l) → p x ≡ q x) → filter p l ≡ filter q l
-filter-ext p q [] h = refl
-filter-ext p q (x ∷ l) h =
-    ap (λ (b : Bool). keep b x (filter p l)) (h x (elem-head x l)) ∙ ap (keep (q x) x) (filter-ext p q l (λ y m. h y (elem-tail y x l m)))
 
 -- ---- two links that agree between different blocks give the same columns
 

@@ -3,7 +3,7 @@ use Prim.Native.Nat.{ℕ, zero, suc, _+_, _-_, _≤_, _<_}
 use mathlib.Core.Bool.{Bool, true, false, _||_}
 use mathlib.Core.List.{List, [], _∷_}
 use mathlib.Core.Logic.{_⊎_, inl, inr, ⊎-elim}
-use mathlib.Core.Path.{_≡_, refl, sym, ap₂, subst}
+use mathlib.Core.Path.{_≡_, refl, sym, ap, ap₂, subst, _∙_}
 use native.Mathlib.Omega.{arith}
 use lib.Dec.{T, eqb, eqb→eq, eqb-refl}
 use Rattle.graph.specs.Sets.{elem, any, keep, filter, from, between, Inc, Uniq}
@@ -121,6 +121,12 @@ between-inc a b = from-inc a (b - a)
 keep-inc : (b : Bool) (x : ℕ) (l : List ℕ) → ((y : ℕ) → T (elem y l) → x < y) → Inc l → Inc (keep b x l)
 keep-inc true x l h i = (h, i)
 keep-inc false x l h i = i
+
+-- tests that agree on a list filter it alike
+pub filter-ext : (p q : ℕ → Bool) (l : List ℕ) → ((x : ℕ) → T (elem x l) → p x ≡ q x) → filter p l ≡ filter q l
+filter-ext p q [] h = refl
+filter-ext p q (x ∷ l) h =
+    ap (λ (b : Bool). keep b x (filter p l)) (h x (elem-head x l)) ∙ ap (keep (q x) x) (filter-ext p q l (λ y m. h y (elem-tail y x l m)))
 
 pub filter-inc : (p : ℕ → Bool) (l : List ℕ) → Inc l → Inc (filter p l)
 filter-inc p [] i = tt

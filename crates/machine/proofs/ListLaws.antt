@@ -11,12 +11,6 @@ use Rattle.graph.specs.Count.{Triple, triple}
 use Rattle.graph.proofs.CountLaws.{same-test}
 use Rattle.graph.proofs.SetLaws.{elem-head, elem-tail, elem-cases, filter-elim, filter-intro}
 
--- tests that agree on a list filter it alike
-pub filter-ext : (p q : ℕ → Bool) (l : List ℕ) → ((x : ℕ) → T (elem x l) → p x ≡ q x) → filter p l ≡ filter q l
-filter-ext p q [] h = refl
-filter-ext p q (x ∷ l) h =
-    ap (λ (b : Bool). keep b x (filter p l)) (h x (elem-head x l)) ∙ ap (keep (q x) x) (filter-ext p q l (λ y m. h y (elem-tail y x l m)))
-
 module _ {A : Type 0} where
   pub gather-ext : (f g : ℕ → List A) (l : List ℕ) → ((x : ℕ) → T (elem x l) → f x ≡ g x) → gather f l ≡ gather g l
   gather-ext f g [] h = refl

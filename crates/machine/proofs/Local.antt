@@ -14,7 +14,7 @@ use lib.ListN.{getD}
 use Rattle.graph.specs.Sets.{elem, filter, between, gather}
 use Rattle.graph.specs.Symbolic.{reach, first}
 use Rattle.graph.specs.Count.{Triple, triple}
-use Rattle.graph.proofs.SetLaws.{is-true, elem-head, elem-tail, elem-cases, filter-elim, between-elim}
+use Rattle.graph.proofs.SetLaws.{is-true, elem-head, elem-tail, elem-cases, filter-elim, between-elim, filter-ext}
 use Rattle.block_diag_ldlt.specs.Block.{blockLdlt}
 use Rattle.block_diag_ldlt.specs.declared.core.Settled.{Settled}
 use Rattle.block_diag_ldlt.specs.declared.core.Settled.the-variants.{Accepted, NotFinite, Poor}
@@ -23,7 +23,7 @@ use Rattle.kernel_product.specs.Product.{subMatDiagMatT}
 use Rattle.machine.specs.System.{System, blocks, links, dim}
 use Rattle.machine.specs.Machine.{Column, State, noColumn, columnAt, rowsAt, parentAt, touched, bodyOr, load, scaled, reduced, matProduct, product, products, reached, sequenceBy, sequence, worked, solved, settledBy, finish, madeOf}
 use Rattle.machine.specs.Claims.{Same, SameMade, Agree, Locality}
-use Rattle.machine.proofs.ListLaws.{filter-ext, gather-ext}
+use Rattle.machine.proofs.ListLaws.{gather-ext}
 use Rattle.machine.proofs.ReachLocal.{reach-local}
 
 -- ---- a property of every triple of a list

@@ -9,9 +9,8 @@ use mathlib.Core.Path.{_≡_, refl, sym, ap, subst, _∙_}
 use lib.Dec.{T, eqb}
 use Rattle.graph.specs.Sets.{elem, filter, between}
 use Rattle.graph.specs.Symbolic.{climb, climbs, reach}
-use Rattle.graph.proofs.SetLaws.{decide, elem-head, elem-tail, between-elim}
+use Rattle.graph.proofs.SetLaws.{decide, elem-head, elem-tail, between-elim, filter-ext}
 use Rattle.graph.proofs.ReachLaws.{climb-stop, climb-go}
-use Rattle.machine.proofs.ListLaws.{filter-ext}
 
 module _ (parent : ℕ → Option ℕ) (j : ℕ) where
   -- what was found stays

@@ -19,7 +19,7 @@ use Rattle.graph.specs.Links.{rowsIn}
 use Rattle.graph.specs.Fill.{Fill}
 use Rattle.graph.specs.Symbolic.{reach, first, parents, column, columns, rows}
 use Rattle.graph.specs.Count.{Triple, triple, columnTriples, triples, productsOf}
-use Rattle.graph.proofs.SetLaws.{true-of, false-of, between-elim}
+use Rattle.graph.proofs.SetLaws.{true-of, false-of, between-elim, filter-ext}
 use Rattle.graph.proofs.ReachLaws.{reach-iff, reach-same}
 use Rattle.graph.proofs.SymbolicLaws.{IsColumn, first-least, columns-at, columns-length, right-below}
 use Rattle.graph.proofs.SumLaws.{filter-all}
@@ -27,7 +27,7 @@ use Rattle.graph.proofs.Whole.{Whole, whole-in, linked-symm}
 use Rattle.machine.specs.System.{System, blocks, order, links, dim, holds, loaded}
 use Rattle.machine.specs.Machine.{State, Column, rowsAt, touched, load, products, reached, sequence, worked, finish, Run, going, stopped, stored, workColumn, start, runTo, run}
 use Rattle.machine.specs.Claims.{Demand3}
-use Rattle.machine.proofs.ListLaws.{filter-ext, gather-ext, gather-last, works-sequence}
+use Rattle.machine.proofs.ListLaws.{gather-ext, gather-last, works-sequence}
 use Rattle.machine.proofs.StepLaws.{rowLists, listed, products-finished, products-done, products-touched, stored-going, finish-made, rows-append}
 
 module _ (a : System) where
