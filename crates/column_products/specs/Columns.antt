@@ -11,20 +11,19 @@ use Rattle.tables.specs.Verdict.{at}
 use Rattle.machine.specs.Machine.{State, Column, columnAt, products}
 use Rattle.block_product.specs.Working.{slot, Apart, Shows}
 
--- The tables, by new number: the dimensions; where each block of the working column begins; where each column of L begins in the tables of
--- rows and of offsets; where a row's body begins in L's values; where a diagonal block's unit factor begins, and its d.
+-- The tables, by new number: the dimensions; where each block of the working column begins; the rows of L, column after column;
+-- where the body of each begins in L's values; where a diagonal block's unit factor begins, and its d.
 pub record Plan : Type 0 where
   pub sizes : List ℕ
   pub places : List ℕ
-  pub lStarts : List ℕ
   pub lRows : List ℕ
   pub lOffsets : List ℕ
   pub unitStarts : List ℕ
   pub dStarts : List ℕ
 
-abbrev pub plan : (sizes places lStarts lRows lOffsets unitStarts dStarts : List ℕ) → Plan
-plan sizes places lStarts lRows lOffsets unitStarts dStarts =
-    record { sizes = sizes; places = places; lStarts = lStarts; lRows = lRows; lOffsets = lOffsets; unitStarts = unitStarts; dStarts = dStarts }
+abbrev pub plan : (sizes places lRows lOffsets unitStarts dStarts : List ℕ) → Plan
+plan sizes places lRows lOffsets unitStarts dStarts =
+    record { sizes = sizes; places = places; lRows = lRows; lOffsets = lOffsets; unitStarts = unitStarts; dStarts = dStarts }
 
 module _ (p : Plan) where
   -- a block's dimension, and where it begins in the working column

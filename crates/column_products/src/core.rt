@@ -11,7 +11,6 @@ ghost use Rattle.column_products.specs.Columns.{plan, PlacesFit, Factors
 pub fn apply_column(
     sizes: &[u32],
     places: &[u32],
-    l_starts: &[u32],
     l_rows: &[u32],
     l_offsets: &[u32],
     unit_starts: &[u32],
@@ -28,10 +27,10 @@ pub fn apply_column(
     c: &mut [f64],
     count: u64,
 ) -> u64
-    requires { ⌜ PlacesFit (plan (now sizes) (now places) (now «l_starts») (now «l_rows») (now «l_offsets») (now «unit_starts») (now «d_starts»)) j k from end (length (now values)) (length (now qi)) (length (now c)) ⌝ }
-    requires { ⌜ FactorsFit (plan (now sizes) (now places) (now «l_starts») (now «l_rows») (now «l_offsets») (now «unit_starts») (now «d_starts»)) j k (length (now diag)) (length (now d)) (length (now qj)) ⌝ }
+    requires { ⌜ PlacesFit (plan (now sizes) (now places) (now «l_rows») (now «l_offsets») (now «unit_starts») (now «d_starts»)) j k from end (length (now values)) (length (now qi)) (length (now c)) ⌝ }
+    requires { ⌜ FactorsFit (plan (now sizes) (now places) (now «l_rows») (now «l_offsets») (now «unit_starts») (now «d_starts»)) j k (length (now diag)) (length (now d)) (length (now qj)) ⌝ }
     requires { ⌜ (from < end) × (at (now «l_rows») from ≡ j) × (count + (end - from) < 2 ^ 64) ⌝ }
-    ensures { λ r. ⌜ ColumnProducts (plan (now (sizes .entry)) (now (places .entry)) (now («l_starts» .entry)) (now («l_rows» .entry)) (now («l_offsets» .entry)) (now («unit_starts» .entry)) (now («d_starts» .entry))) j k from end (now (values .entry)) (now (diag .entry)) (now (d .entry)) (now (c .entry)) count (now (c .exit)) r ⌝ }
+    ensures { λ r. ⌜ ColumnProducts (plan (now (sizes .entry)) (now (places .entry)) (now («l_rows» .entry)) (now («l_offsets» .entry)) (now («unit_starts» .entry)) (now («d_starts» .entry))) j k from end (now (values .entry)) (now (diag .entry)) (now (d .entry)) (now (c .entry)) count (now (c .exit)) r ⌝ }
 {
     let hj = sizes[j] as usize;
     let wk = sizes[k] as usize;

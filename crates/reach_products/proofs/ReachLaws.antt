@@ -82,63 +82,63 @@ gather-append : (f : ℕ → List Triple) (l m : List ℕ) → gather f (l ++ m)
 gather-append f [] m = refl
 gather-append f (x ∷ l) m = ap (λ (r : List Triple). f x ++ r) (gather-append f l m) ∙ sym (append-assoc (f x) (gather f l) (gather f m))
 
-module _ (p : Plan) (j : ℕ) (reach next : List ℕ) where
+module _ (p : Plan) (lStarts : List ℕ) (j : ℕ) (reach next : List ℕ) where
   -- one column more
   triples-more : (t : ℕ) → t < length reach
-      → reachTriples p next j (take (t + 1) reach) ≡ reachTriples p next j (take t reach) ++ map (triple j (at reach t)) (rowsFrom p next (at reach t))
+      → reachTriples p lStarts next j (take (t + 1) reach) ≡ reachTriples p lStarts next j (take t reach) ++ map (triple j (at reach t)) (rowsFrom p lStarts next (at reach t))
   triples-more t h =
-      ap (reachTriples p next j) (ap (λ (m : ℕ). take m reach) (add-one t) ∙ take-suc reach t 0 h)
-      ∙ gather-append (λ k. map (triple j k) (rowsFrom p next k)) (take t reach) (at reach t ∷ [])
-      ∙ ap (λ (l : List Triple). reachTriples p next j (take t reach) ++ l) (append-nil (map (triple j (at reach t)) (rowsFrom p next (at reach t))))
+      ap (reachTriples p lStarts next j) (ap (λ (m : ℕ). take m reach) (add-one t) ∙ take-suc reach t 0 h)
+      ∙ gather-append (λ k. map (triple j k) (rowsFrom p lStarts next k)) (take t reach) (at reach t ∷ [])
+      ∙ ap (λ (l : List Triple). reachTriples p lStarts next j (take t reach) ++ l) (append-nil (map (triple j (at reach t)) (rowsFrom p lStarts next (at reach t))))
 
   pub count-more : (t : ℕ) → t < length reach
-      → length (reachTriples p next j (take (t + 1) reach)) ≡ length (reachTriples p next j (take t reach)) + length (rowsFrom p next (at reach t))
+      → length (reachTriples p lStarts next j (take (t + 1) reach)) ≡ length (reachTriples p lStarts next j (take t reach)) + length (rowsFrom p lStarts next (at reach t))
   count-more t h =
-      ap length (triples-more t h) ∙ length-append (reachTriples p next j (take t reach)) (map (triple j (at reach t)) (rowsFrom p next (at reach t)))
-      ∙ ap (λ (m : ℕ). length (reachTriples p next j (take t reach)) + m) (length-map (rowsFrom p next (at reach t)) (triple j (at reach t)))
+      ap length (triples-more t h) ∙ length-append (reachTriples p lStarts next j (take t reach)) (map (triple j (at reach t)) (rowsFrom p lStarts next (at reach t)))
+      ∙ ap (λ (m : ℕ). length (reachTriples p lStarts next j (take t reach)) + m) (length-map (rowsFrom p lStarts next (at reach t)) (triple j (at reach t)))
 
   -- a column's rows are as many as its places
-  pub rows-many : (k v q c : ℕ) → at next k ≤ endOf p k → PlacesFit p j k (at next k) (endOf p k) v q c → length (rowsFrom p next k) ≡ endOf p k - at next k
-  rows-many k v q c le fits = slot-length (p .lRows) (at next k) (endOf p k - at next k) (omega (arith, fits .in-tables))
+  pub rows-many : (k v q c : ℕ) → at next k ≤ endOf lStarts k → PlacesFit p j k (at next k) (endOf lStarts k) v q c → length (rowsFrom p lStarts next k) ≡ endOf lStarts k - at next k
+  rows-many k v q c le fits = slot-length (p .lRows) (at next k) (endOf lStarts k - at next k) (omega (arith, fits .in-tables))
 
   -- the products by some of the columns are at most those by all
-  pub count-room : (t : ℕ) → length (reachTriples p next j (take t reach)) ≤ length (reachTriples p next j reach)
+  pub count-room : (t : ℕ) → length (reachTriples p lStarts next j (take t reach)) ≤ length (reachTriples p lStarts next j reach)
   count-room t =
       omega (
         arith,
-        ap (λ (l : List ℕ). length (reachTriples p next j l)) (take-append-drop t reach),
-        ap length (gather-append (λ k. map (triple j k) (rowsFrom p next k)) (take t reach) (drop t reach)),
-        length-append (reachTriples p next j (take t reach)) (reachTriples p next j (drop t reach)),
+        ap (λ (l : List ℕ). length (reachTriples p lStarts next j l)) (take-append-drop t reach),
+        ap length (gather-append (λ k. map (triple j k) (rowsFrom p lStarts next k)) (take t reach) (drop t reach)),
+        length-append (reachTriples p lStarts next j (take t reach)) (reachTriples p lStarts next j (drop t reach)),
       )
 
   module _ (values diag d c₀ : List Float) (count₀ : ℕ) where
     -- the first t columns are done
     abbrev pub ReachUpTo : List Float → ℕ → ℕ → Type 0
-    ReachUpTo c count t = ReachSteps p j reach next values diag d c₀ count₀ (reachTriples p next j (take t reach)) c count
+    ReachUpTo c count t = ReachSteps p lStarts j reach next values diag d c₀ count₀ (reachTriples p lStarts next j (take t reach)) c count
 
     pub reach-none : ReachUpTo c₀ count₀ 0
     unfolding products
     reach-none on all apart s holds sh = sh
 
     pub reach-more : (t : ℕ) (c c′ : List Float) (count count′ : ℕ) → t < length reach → ReachUpTo c count t
-        → ColumnProducts p j (at reach t) (at next (at reach t)) (endOf p (at reach t)) values diag d c count c′ count′
+        → ColumnProducts p j (at reach t) (at next (at reach t)) (endOf lStarts (at reach t)) values diag d c count c′ count′
         → ReachUpTo c′ count′ (t + 1)
     reach-more t c c′ count count′ h up col on all apart s holds sh =
         subst (Shows (sizeOf p) (placeOf p) on j c′ count′) (sym whole)
         (col .steps on (all t h) apart s₁
-        (subst (Holds p values diag d (at reach t) (at next (at reach t)) (endOf p (at reach t))) same (holds t h)) (up on all apart s holds sh))
+        (subst (Holds p values diag d (at reach t) (at next (at reach t)) (endOf lStarts (at reach t))) same (holds t h)) (up on all apart s holds sh))
       where
         s₁ : State
-        s₁ = products (sizeOf p) (reachTriples p next j (take t reach)) s
+        s₁ = products (sizeOf p) (reachTriples p lStarts next j (take t reach)) s
 
         same : columnAt s (at reach t) ≡ columnAt s₁ (at reach t)
-        same = ap (λ (l : List Column). getD l (at reach t) noColumn) (sym (products-finished (sizeOf p) (reachTriples p next j (take t reach)) s))
+        same = ap (λ (l : List Column). getD l (at reach t) noColumn) (sym (products-finished (sizeOf p) (reachTriples p lStarts next j (take t reach)) s))
 
-        whole : products (sizeOf p) (reachTriples p next j (take (t + 1) reach)) s ≡ products (sizeOf p) (map (triple j (at reach t)) (rowsFrom p next (at reach t))) s₁
+        whole : products (sizeOf p) (reachTriples p lStarts next j (take (t + 1) reach)) s ≡ products (sizeOf p) (map (triple j (at reach t)) (rowsFrom p lStarts next (at reach t))) s₁
         whole =
             ap (λ (l : List Triple). products (sizeOf p) l s) (triples-more t h)
-            ∙ products-append (sizeOf p) (reachTriples p next j (take t reach)) (map (triple j (at reach t)) (rowsFrom p next (at reach t))) s
+            ∙ products-append (sizeOf p) (reachTriples p lStarts next j (take t reach)) (map (triple j (at reach t)) (rowsFrom p lStarts next (at reach t))) s
 
     pub reach-all : (t : ℕ) (c : List Float) (count : ℕ) → length reach ≤ t → ReachUpTo c count t
-        → ReachSteps p j reach next values diag d c₀ count₀ (reachTriples p next j reach) c count
-    reach-all t c count h up = subst (λ (l : List ℕ). ReachSteps p j reach next values diag d c₀ count₀ (reachTriples p next j l) c count) (take-all t reach h) up
+        → ReachSteps p lStarts j reach next values diag d c₀ count₀ (reachTriples p lStarts next j reach) c count
+    reach-all t c count h up = subst (λ (l : List ℕ). ReachSteps p lStarts j reach next values diag d c₀ count₀ (reachTriples p lStarts next j l) c count) (take-all t reach h) up

@@ -25,9 +25,9 @@ pub fn apply_reach(
     c: &mut [f64],
     count: u64,
 ) -> u64
-    requires { ⌜ ReachFit (plan (now sizes) (now places) (now «l_starts») (now «l_rows») (now «l_offsets») (now «unit_starts») (now «d_starts»)) j (now reach) (now next) (length (now values)) (length (now diag)) (length (now d)) (length (now qj)) (length (now qi)) (length (now c)) ⌝ }
-    requires { ⌜ count + length (reachTriples (plan (now sizes) (now places) (now «l_starts») (now «l_rows») (now «l_offsets») (now «unit_starts») (now «d_starts»)) (now next) j (now reach)) < 2 ^ 64 ⌝ }
-    ensures { λ r. ⌜ ReachProducts (plan (now (sizes .entry)) (now (places .entry)) (now («l_starts» .entry)) (now («l_rows» .entry)) (now («l_offsets» .entry)) (now («unit_starts» .entry)) (now («d_starts» .entry))) j (now (reach .entry)) (now (next .entry)) (now (values .entry)) (now (diag .entry)) (now (d .entry)) (now (c .entry)) count (now (next .exit)) (now (c .exit)) r ⌝ }
+    requires { ⌜ ReachFit (plan (now sizes) (now places) (now «l_rows») (now «l_offsets») (now «unit_starts») (now «d_starts»)) (now «l_starts») j (now reach) (now next) (length (now values)) (length (now diag)) (length (now d)) (length (now qj)) (length (now qi)) (length (now c)) ⌝ }
+    requires { ⌜ count + length (reachTriples (plan (now sizes) (now places) (now «l_rows») (now «l_offsets») (now «unit_starts») (now «d_starts»)) (now «l_starts») (now next) j (now reach)) < 2 ^ 64 ⌝ }
+    ensures { λ r. ⌜ ReachProducts (plan (now (sizes .entry)) (now (places .entry)) (now («l_rows» .entry)) (now («l_offsets» .entry)) (now («unit_starts» .entry)) (now («d_starts» .entry))) (now («l_starts» .entry)) j (now (reach .entry)) (now (next .entry)) (now (values .entry)) (now (diag .entry)) (now (d .entry)) (now (c .entry)) count (now (next .exit)) (now (c .exit)) r ⌝ }
 {
     let mut n = count;
     for t in 0..reach.len() {
@@ -37,7 +37,6 @@ pub fn apply_reach(
         n = apply_column(
             sizes,
             places,
-            l_starts,
             l_rows,
             l_offsets,
             unit_starts,

@@ -20,7 +20,7 @@ use Rattle.column_products.proofs.core.apply_column.Tie as tie
 abbrev tables : tie.Start → Plan
 tables s =
     let x = s .args in
-    plan (now (x .sizes)) (now (x .places)) (now (x .l-starts)) (now (x .l-rows)) (now (x .l-offsets)) (now (x .unit-starts)) (now (x .d-starts))
+    plan (now (x .sizes)) (now (x .places)) (now (x .l-rows)) (now (x .l-offsets)) (now (x .unit-starts)) (now (x .d-starts))
 
 -- L(j, k) lies in L's values
 first-fits : (c : tie.Start) → let x = c .args in
@@ -29,12 +29,12 @@ first-fits c = rw (c .pre .1 .1 .1) at (c .pre .0 .body (c .args .from) (omega a
 
 slice-aggregate-multiply : tie.Need-slice-aggregate-multiply
 slice-aggregate-multiply c =
-    let x = c .before .before .before .before .before .before .before .before .before .before .before .before .before .before .before .before .before .before .before .before .before .args in
+    let x = c .before .before .before .before .before .before .before .before .before .before .before .before .before .before .before .before .before .before .before .before .args in
     sym (length-take-le (at (now (x .sizes)) (x .j) * at (now (x .sizes)) (x .k)) (now (x .qj)) (omega arith))
 
 multiply-requires : tie.Need-multiply-requires
 multiply-requires c κs =
-    let s = c .before .before .before .before .before .before .before .before .before .before .before .before .before .before .before .before .before .before .before .before .before in
+    let s = c .before .before .before .before .before .before .before .before .before .before .before .before .before .before .before .before .before .before .before .before in
     let x = s .args in
     let h = at (now (x .sizes)) (x .j) in
     let w = at (now (x .sizes)) (x .k) in
@@ -47,7 +47,7 @@ multiply-requires c κs =
 
 slice-reshare-prefix-apply-rows : tie.Need-slice-reshare-prefix-apply-rows
 slice-reshare-prefix-apply-rows c =
-    let s = c .before .before .before .before .before .before .before .before .before .before .before .before .before .before .before .before .before .before .before .before .before .before .before .before .before .before .before .before in
+    let s = c .before .before .before .before .before .before .before .before .before .before .before .before .before .before .before .before .before .before .before .before .before .before .before .before .before .before .before in
     let x = s .args in
     let h = at (now (x .sizes)) (x .j) in
     let w = at (now (x .sizes)) (x .k) in
@@ -59,7 +59,7 @@ slice-reshare-prefix-apply-rows c =
 
 slice-aggregate-apply-rows : tie.Need-slice-aggregate-apply-rows
 slice-aggregate-apply-rows c =
-    let s = c .before .before .before .before .before .before .before .before .before .before .before .before .before .before .before .before .before .before .before .before .before .before .before .before .before .before .before .before .before in
+    let s = c .before .before .before .before .before .before .before .before .before .before .before .before .before .before .before .before .before .before .before .before .before .before .before .before .before .before .before .before in
     let x = s .args in
     let h = at (now (x .sizes)) (x .j) in
     let w = at (now (x .sizes)) (x .k) in
@@ -70,7 +70,7 @@ slice-aggregate-apply-rows c =
 
 apply-rows-requires : tie.Need-apply-rows-requires
 apply-rows-requires c κs =
-    let s = c .before .before .before .before .before .before .before .before .before .before .before .before .before .before .before .before .before .before .before .before .before .before .before .before .before .before .before .before .before .before .before in
+    let s = c .before .before .before .before .before .before .before .before .before .before .before .before .before .before .before .before .before .before .before .before .before .before .before .before .before .before .before .before .before .before in
     let x = s .args in
     let h = at (now (x .sizes)) (x .j) in
     let w = at (now (x .sizes)) (x .k) in
@@ -94,7 +94,7 @@ apply-rows-requires c κs =
 
 same-length : tie.Need-same-length
 same-length c =
-    let x = c .before .before .before .before .before .before .before .before .before .before .before .before .before .before .before .before .before .before .before .before .before .before .before .before .before .before .before .before .before .before .before .before .before .before .before .before .args in
+    let x = c .before .before .before .before .before .before .before .before .before .before .before .before .before .before .before .before .before .before .before .before .before .before .before .before .before .before .before .before .before .before .before .before .before .before .before .args in
     let m = c .before .before .before .before .before .before .before .before .before .before .before .before .before .before .multiply in
     length-front (now (x .qj)) (m .last .1 .1 .1 .1 .1 .0) (at (now (x .sizes)) (x .j) * at (now (x .sizes)) (x .k)) (m .kept .1 .1 .1 .1 .1 .0)
 
@@ -106,7 +106,7 @@ same-length-3 c = c .before .before .before .before .apply-rows .kept .1 .1 .1 .
 
 returns : tie.Need-returns
 returns c =
-    let s = c .before .before .before .before .before .before .before .before .before .before .before .before .before .before .before .before .before .before .before .before .before .before .before .before .before .before .before .before .before .before .before .before .before .before .before .before in
+    let s = c .before .before .before .before .before .before .before .before .before .before .before .before .before .before .before .before .before .before .before .before .before .before .before .before .before .before .before .before .before .before .before .before .before .before .before in
     let x = s .args in
     let h = at (now (x .sizes)) (x .j) in
     let w = at (now (x .sizes)) (x .k) in
@@ -124,15 +124,15 @@ apply-column-spec =
     (tie.spec
     (λ c. omega arith)
     (λ c. omega arith)
-    (λ c. omega (arith, c .shared-slice-known11 .given (c .before .before .before .before .before .before .before .before .before .before .before .before .before .before .args .j)))
+    (λ c. omega (arith, c .shared-slice-known10 .given (c .before .before .before .before .before .before .before .before .before .before .before .before .before .args .j)))
     (λ c. omega arith)
     (λ c. omega arith)
     (λ c. omega arith)
     (λ c. omega arith)
     (λ c. omega arith)
     (λ c. omega arith)
-    (λ c. omega (arith, c .shared-slice-known13 .given (c .before .before .before .before .before .before .before .before .before .before .before .before .before .before .before .before .args .from)))
-    (λ c. omega (arith, first-fits (c .before .before .before .before .before .before .before .before .before .before .before .before .before .before .before .before)))
+    (λ c. omega (arith, c .shared-slice-known12 .given (c .before .before .before .before .before .before .before .before .before .before .before .before .before .before .before .args .from)))
+    (λ c. omega (arith, first-fits (c .before .before .before .before .before .before .before .before .before .before .before .before .before .before .before)))
     (λ c. omega arith)
     (λ c. omega arith)
     (λ c. omega arith)
@@ -142,10 +142,10 @@ apply-column-spec =
     (λ c. omega arith)
     (λ c. omega arith)
     (λ c. omega arith)
-    (λ c. omega (arith, first-fits (c .before .before .before .before .before .before .before .before .before .before .before .before .before .before .before .before .before .before)))
+    (λ c. omega (arith, first-fits (c .before .before .before .before .before .before .before .before .before .before .before .before .before .before .before .before .before)))
     (λ c. omega arith)
     (λ c. omega arith)
-    (λ c. omega (arith, first-fits (c .before .before .before .before .before .before .before .before .before .before .before .before .before .before .before .before .before .before)))
+    (λ c. omega (arith, first-fits (c .before .before .before .before .before .before .before .before .before .before .before .before .before .before .before .before .before)))
     (λ c. omega arith)
     (λ c. omega arith)
     (λ c. omega arith)
@@ -161,11 +161,11 @@ apply-column-spec =
     (λ c. omega arith)
     (λ c. omega arith)
     (λ c. omega arith)
+    (λ c. omega (arith, c .before .before .before .before .before .before .before .before .before .before .before .before .before .before .before .before .before .before .before .before .before .before .before .before .before .pre .1 .0, c .before .before .before .before .before .before .before .before .before .before .before .before .before .before .before .before .before .before .before .before .before .before .before .before .before .good))
+    (λ c. omega arith)
+    (λ c. omega arith)
+    (λ c. omega arith)
     (λ c. omega (arith, c .before .before .before .before .before .before .before .before .before .before .before .before .before .before .before .before .before .before .before .before .before .before .before .before .before .before .pre .1 .0, c .before .before .before .before .before .before .before .before .before .before .before .before .before .before .before .before .before .before .before .before .before .before .before .before .before .before .good))
-    (λ c. omega arith)
-    (λ c. omega arith)
-    (λ c. omega arith)
-    (λ c. omega (arith, c .before .before .before .before .before .before .before .before .before .before .before .before .before .before .before .before .before .before .before .before .before .before .before .before .before .before .before .pre .1 .0, c .before .before .before .before .before .before .before .before .before .before .before .before .before .before .before .before .before .before .before .before .before .before .before .before .before .before .before .good))
     (λ c. omega arith)
     (λ c. omega arith)
     (λ c. omega arith)

@@ -18,8 +18,8 @@ use Rattle.reach_products.proofs.core.apply_reach.Tie as tie
 abbrev Inv-loop : tie.InvT-loop
 Inv-loop sizes places l-starts l-rows l-offsets unit-starts d-starts j reach next₀ values diag d qj₀ qi₀ c₀ count n₀ t₀ t-end next qj qi c n t =
     (t-end ≡ length reach) × (t ≤ length reach) × (length qj ≡ length qj₀) × (length qi ≡ length qi₀) × (length c ≡ length c₀)
-    × (next ≡ advanced (take t reach) next₀) × (n ≡ count + length (reachTriples (plan sizes places l-starts l-rows l-offsets unit-starts d-starts) next₀ j (take t reach)))
-    × ReachUpTo (plan sizes places l-starts l-rows l-offsets unit-starts d-starts) j reach next₀ values diag d c₀ count c n t
+    × (next ≡ advanced (take t reach) next₀) × (n ≡ count + length (reachTriples (plan sizes places l-rows l-offsets unit-starts d-starts) l-starts next₀ j (take t reach)))
+    × ReachUpTo (plan sizes places l-rows l-offsets unit-starts d-starts) l-starts j reach next₀ values diag d c₀ count c n t
 
 abbrev μ-loop : tie.MeasureT-loop
 μ-loop sizes places l-starts l-rows l-offsets unit-starts d-starts j reach next₀ values diag d qj₀ qi₀ c₀ count n₀ t₀ t-end next qj qi c n t = length reach - t
@@ -27,7 +27,7 @@ abbrev μ-loop : tie.MeasureT-loop
 abbrev tables : tie.Start Inv-loop μ-loop → Plan
 tables s =
     let x = s .args in
-    plan (now (x .sizes)) (now (x .places)) (now (x .l-starts)) (now (x .l-rows)) (now (x .l-offsets)) (now (x .unit-starts)) (now (x .d-starts))
+    plan (now (x .sizes)) (now (x .places)) (now (x .l-rows)) (now (x .l-offsets)) (now (x .unit-starts)) (now (x .d-starts))
 
 -- what is known of the column of this turn
 turn-fits : (c : tie.In-loop Inv-loop μ-loop) → let x = c .before .before .before .before .before .before .before .before .before .before .before .before .before .before .before .before .before .args in
@@ -36,7 +36,7 @@ turn-fits : (c : tie.In-loop Inv-loop μ-loop) → let x = c .before .before .be
     let from = at (now (x .next)) k in
     let end = at (now (x .l-starts)) (k + 1) in
     (k < length (l .next)) × (k + 1 < length (now (x .l-starts))) × (at (l .next) k ≡ from) × (from < end) × (at (now (x .l-rows)) from ≡ x .j)
-    × (l .n + (end - from) ≡ x .count + length (reachTriples (tables (c .before .before .before .before .before .before .before .before .before .before .before .before .before .before .before .before .before)) (now (x .next)) (x .j) (take (l .t + 1) (now (x .reach)))))
+    × (l .n + (end - from) ≡ x .count + length (reachTriples (tables (c .before .before .before .before .before .before .before .before .before .before .before .before .before .before .before .before .before)) (now (x .l-starts)) (now (x .next)) (x .j) (take (l .t + 1) (now (x .reach)))))
     × (l .n + (end - from) < 2 ^ 64) × (end ≤ length (now (x .l-rows))) × (length (l .next) ≡ length (now (x .next))) × (l .t < length (now (x .reach)))
 turn-fits c =
     let s = c .before .before .before .before .before .before .before .before .before .before .before .before .before .before .before .before .before in
@@ -50,17 +50,17 @@ turn-fits c =
     let g = f .column t h in
     let there : at (l .next) k ≡ at (now (x .next)) k = rw (l .inv .5) (next-there (now (x .reach)) (now (x .next)) t (f .once) h) in
     let long : length (l .next) ≡ length (now (x .next)) = rw (l .inv .5) (advanced-length (take t (now (x .reach))) (now (x .next))) in
-    let many = rows-many p (x .j) (now (x .reach)) (now (x .next)) k _ _ _ (omega (arith, g)) (f .places t h) in
-    let more = count-more p (x .j) (now (x .reach)) (now (x .next)) t h in
-    let room = count-room p (x .j) (now (x .reach)) (now (x .next)) (t + 1) in
-    let e : l .n + (at (now (x .l-starts)) (k + 1) - at (now (x .next)) k) ≡ x .count + length (reachTriples p (now (x .next)) (x .j) (take (t + 1) (now (x .reach)))) = omega (arith, l .inv .6) in
+    let many = rows-many p (now (x .l-starts)) (x .j) (now (x .reach)) (now (x .next)) k _ _ _ (omega (arith, g)) (f .places t h) in
+    let more = count-more p (now (x .l-starts)) (x .j) (now (x .reach)) (now (x .next)) t h in
+    let room = count-room p (now (x .l-starts)) (x .j) (now (x .reach)) (now (x .next)) (t + 1) in
+    let e : l .n + (at (now (x .l-starts)) (k + 1) - at (now (x .next)) k) ≡ x .count + length (reachTriples p (now (x .l-starts)) (now (x .next)) (x .j) (take (t + 1) (now (x .reach)))) = omega (arith, l .inv .6) in
     (omega (arith, g), g .1, there, g .2, g .3, e, omega (arith, s .pre .1), f .places t h .in-tables .0, long, h)
 
 loop-holds : tie.Need-loop-holds Inv-loop μ-loop
 loop-holds c =
     let s = c .before .before .before .before .before .before .before .before .before .before .before .before .before .before .before in
     let x = s .args in
-    (search needs, search needs, refl, refl, refl, refl, omega arith, reach-none (tables s) (x .j) (now (x .reach)) (now (x .next)) (now (x .values)) (now (x .diag)) (now (x .d)) (now (x .c)) (x .count))
+    (search needs, search needs, refl, refl, refl, refl, omega arith, reach-none (tables s) (now (x .l-starts)) (x .j) (now (x .reach)) (now (x .next)) (now (x .values)) (now (x .diag)) (now (x .d)) (now (x .c)) (x .count))
 
 apply-column-requires : tie.Need-apply-column-requires Inv-loop μ-loop
 apply-column-requires c κs =
@@ -89,16 +89,16 @@ loop-again c =
     let g = turn-fits (c .before .before .before .before .before .before .before .before .before .before .before .before .before) in
     let h = g .9 in
     let end = at (now (x .l-starts)) (k + 1) in
-    let c′ = b .last .1 .1 .1 .1 .1 .1 .1 .1 .1 .1 .1 .1 .1 .1 .1 .1 .0 in (
+    let c′ = b .last .1 .1 .1 .1 .1 .1 .1 .1 .1 .1 .1 .1 .1 .1 .1 .0 in (
       search needs,
       omega (arith, h),
-      b .kept .1 .1 .1 .1 .1 .1 .1 .1 .1 .1 .1 .1 .1 .1 .0 ∙ l .inv .2,
-      b .kept .1 .1 .1 .1 .1 .1 .1 .1 .1 .1 .1 .1 .1 .1 .1 .0 ∙ l .inv .3,
-      b .kept .1 .1 .1 .1 .1 .1 .1 .1 .1 .1 .1 .1 .1 .1 .1 .1 .0 ∙ l .inv .4,
+      b .kept .1 .1 .1 .1 .1 .1 .1 .1 .1 .1 .1 .1 .1 .0 ∙ l .inv .2,
+      b .kept .1 .1 .1 .1 .1 .1 .1 .1 .1 .1 .1 .1 .1 .1 .0 ∙ l .inv .3,
+      b .kept .1 .1 .1 .1 .1 .1 .1 .1 .1 .1 .1 .1 .1 .1 .1 .0 ∙ l .inv .4,
       ap (λ (f : ℕ). set (l .next) k (f + 1)) (g .2) ∙ ap (λ (m : List ℕ). set m k (at (now (x .next)) k + 1)) (l .inv .5)
           ∙ next-more (now (x .reach)) (now (x .next)) (l .t) (s .pre .0 .once) h,
       b .ensures .counts ∙ ap (λ (f : ℕ). l .n + (end - f)) (g .2) ∙ g .5,
-      reach-more p (x .j) (now (x .reach)) (now (x .next)) (now (x .values)) (now (x .diag)) (now (x .d)) (now (x .c)) (x .count) (l .t) (l .c) c′ (l .n) (b .result) h (l .inv .7)
+      reach-more p (now (x .l-starts)) (x .j) (now (x .reach)) (now (x .next)) (now (x .values)) (now (x .diag)) (now (x .d)) (now (x .c)) (x .count) (l .t) (l .c) c′ (l .n) (b .result) h (l .inv .7)
           (subst (λ (f : ℕ). ColumnProducts p (x .j) k f end (now (x .values)) (now (x .diag)) (now (x .d)) (l .c) (l .n) c′ (b .result)) (g .2) (b .ensures)),
     )
 
@@ -116,8 +116,8 @@ returns c =
     let e = take-all (l .t) (now (x .reach)) (omega arith) in
     record {
       moved = l .inv .5 ∙ ap (λ (r : List ℕ). advanced r (now (x .next))) e;
-      counts = l .inv .6 ∙ ap (λ (r : List ℕ). x .count + length (reachTriples (tables s) (now (x .next)) (x .j) r)) e;
-      steps = reach-all (tables s) (x .j) (now (x .reach)) (now (x .next)) (now (x .values)) (now (x .diag)) (now (x .d)) (now (x .c)) (x .count) (l .t) (l .c) (l .n) (omega arith) (l .inv .7);
+      counts = l .inv .6 ∙ ap (λ (r : List ℕ). x .count + length (reachTriples (tables s) (now (x .l-starts)) (now (x .next)) (x .j) r)) e;
+      steps = reach-all (tables s) (now (x .l-starts)) (x .j) (now (x .reach)) (now (x .next)) (now (x .values)) (now (x .diag)) (now (x .d)) (now (x .c)) (x .count) (l .t) (l .c) (l .n) (omega arith) (l .inv .7);
     }
 
 pub apply-reach-spec : {M : Type 1} → statement M
