@@ -1,6 +1,6 @@
 -- `column_products::core::apply_column` meets its contract: Q(j) is made in a part of qj, then the rows' products are the column's (`column-products`).
 -- Assumes nothing.
-use Prim.Native.Nat.{_+_, _-_, _*_, _≤_}
+use Prim.Native.Nat.{ℕ, _+_, _-_, _*_, _≤_}
 use mathlib.Core.List.{_++_}
 use mathlib.Core.Path.{_≡_, sym, ap, _∙_}
 use native.Mathlib.Nat.{add-sub-cancel-left}
@@ -26,6 +26,12 @@ tables s =
 first-fits : (c : tie.Start) → let x = c .args in
     at (now (x .l-offsets)) (x .from) + at (now (x .sizes)) (x .j) * at (now (x .sizes)) (x .k) ≤ length (now (x .values))
 first-fits c = rw (c .pre .1 .1 .1) at (c .pre .0 .body (c .args .from) (omega arith) (omega arith))
+
+sums : (a b : ℕ) → a ≤ a + b
+sums a b = omega arith
+
+earlier : (c : tie.Start) → c .args .from ≤ c .args .end
+earlier c = omega (arith, c .pre .1 .1)
 
 slice-aggregate-multiply : tie.Need-slice-aggregate-multiply
 slice-aggregate-multiply c =
@@ -143,32 +149,32 @@ apply-column-spec =
     (λ c. omega arith)
     (λ c. omega arith)
     (λ c. omega (arith, first-fits (c .before .before .before .before .before .before .before .before .before .before .before .before .before .before .before .before .before)))
+    (λ c. sums _ _)
+    (λ c. sums _ _)
+    (λ c. first-fits (c .before .before .before .before .before .before .before .before .before .before .before .before .before .before .before .before .before))
     (λ c. omega arith)
-    (λ c. omega arith)
-    (λ c. omega (arith, first-fits (c .before .before .before .before .before .before .before .before .before .before .before .before .before .before .before .before .before)))
-    (λ c. omega arith)
-    (λ c. omega arith)
-    (λ c. omega arith)
-    (λ c. omega arith)
+    (λ c. sums _ _)
+    (λ c. sums _ _)
+    (λ c. c .before .before .before .before .before .before .before .before .before .before .before .before .before .before .before .before .before .before .pre .1 .0 .unit)
     (λ c. search needs)
     slice-aggregate-multiply
     multiply-requires
     (λ c. omega arith)
+    (λ c. earlier (c .before .before .before .before .before .before .before .before .before .before .before .before .before .before .before .before .before .before .before .before .before .before .before))
+    (λ c. earlier (c .before .before .before .before .before .before .before .before .before .before .before .before .before .before .before .before .before .before .before .before .before .before .before))
+    (λ c. c .before .before .before .before .before .before .before .before .before .before .before .before .before .before .before .before .before .before .before .before .before .before .before .pre .0 .in-tables .0)
     (λ c. omega arith)
-    (λ c. omega arith)
-    (λ c. omega arith)
-    (λ c. omega arith)
-    (λ c. omega arith)
-    (λ c. omega arith)
+    (λ c. earlier (c .before .before .before .before .before .before .before .before .before .before .before .before .before .before .before .before .before .before .before .before .before .before .before .before))
+    (λ c. earlier (c .before .before .before .before .before .before .before .before .before .before .before .before .before .before .before .before .before .before .before .before .before .before .before .before))
     (λ c. omega arith)
     (λ c. omega (arith, c .before .before .before .before .before .before .before .before .before .before .before .before .before .before .before .before .before .before .before .before .before .before .before .before .before .pre .1 .0, c .before .before .before .before .before .before .before .before .before .before .before .before .before .before .before .before .before .before .before .before .before .before .before .before .before .good))
-    (λ c. omega arith)
-    (λ c. omega arith)
-    (λ c. omega arith)
+    (λ c. sums _ _)
+    (λ c. sums _ _)
+    (λ c. c .before .before .before .before .before .before .before .before .before .before .before .before .before .before .before .before .before .before .before .before .before .before .before .before .before .pre .1 .0 .unit)
     (λ c. omega (arith, c .before .before .before .before .before .before .before .before .before .before .before .before .before .before .before .before .before .before .before .before .before .before .before .before .before .before .pre .1 .0, c .before .before .before .before .before .before .before .before .before .before .before .before .before .before .before .before .before .before .before .before .before .before .before .before .before .before .good))
-    (λ c. omega arith)
-    (λ c. omega arith)
-    (λ c. omega arith)
+    (λ c. sums _ _)
+    (λ c. sums _ _)
+    (λ c. c .before .before .before .before .before .before .before .before .before .before .before .before .before .before .before .before .before .before .before .before .before .before .before .before .before .before .pre .1 .0 .of-d)
     slice-reshare-prefix-apply-rows
     slice-aggregate-apply-rows
     apply-rows-requires
