@@ -43,7 +43,7 @@ module _ (p : Plan) where
 
   -- of the rows: L(i, k), Q(i) and block (i, j)
   pub record PlacesFit (j k from end values room c : ℕ) : Type 0 where
-    pub in-tables : (end ≤ length (p .lRows)) × (length (p .lOffsets) ≡ length (p .lRows))
+    pub in-tables : (end ≤ length (p .lRows)) × (end ≤ length (p .lOffsets))
     pub row : (t : ℕ) → from ≤ t → t < end → (at (p .lRows) t < length (p .sizes)) × (at (p .lRows) t < length (p .places))
     pub body : (t : ℕ) → from ≤ t → t < end → at (p .lOffsets) t + sizeOf (at (p .lRows) t) * sizeOf k ≤ values
     pub scaled-row : (t : ℕ) → from ≤ t → t < end → sizeOf (at (p .lRows) t) * sizeOf k ≤ room

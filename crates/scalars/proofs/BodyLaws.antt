@@ -76,9 +76,9 @@ module _ (dims starts rows : List ℕ) where
 
 -- ---- the loop that writes the offsets
 
-module _ {dims starts rows : List ℕ} (m : Measured dims starts rows) (few : length rows ≤ 65536) where
+module _ {dims starts rows : List ℕ} (m : Measured dims starts rows) (few : length rows < 16777216) where
   -- the sums stay small
-  pub offset-small : (p : ℕ) → p ≤ length rows → offsetAt dims starts rows p ≤ 16777216
+  pub offset-small : (p : ℕ) → p ≤ length rows → offsetAt dims starts rows p ≤ 4294967040
   offset-small p h =
       let s = sum-split (areaAt dims starts rows) 0 p (length rows) (omega arith) h in
       let a = areas-le dims rows (m .sizes) starts in

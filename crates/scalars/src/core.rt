@@ -46,7 +46,7 @@ pub fn make_scalar_perm(dims: &[u32], order: &[u32], old_starts: &[u32], out: &m
 
 // Where the body of each stored block begins in A's values, behind the last the number of values.
 pub fn make_offsets(dims: &[u32], starts: &[u32], rows: &[u32], out: &mut [u32])
-    requires { ⌜ Measured (now dims) (now starts) (now rows) × (length (now rows) ≤ 65536) × (length (now out) ≡ length (now rows) + 1) ⌝ }
+    requires { ⌜ Measured (now dims) (now starts) (now rows) × (length (now rows) < 16777216) × (length (now out) ≡ length (now rows) + 1) ⌝ }
     ensures { λ _. ⌜ now (out .exit) ≡ offsets (now (dims .entry)) (now (starts .entry)) (now (rows .entry)) ⌝ }
 {
     let mut sum = 0;

@@ -1,0 +1,2 @@
+-- The written definitions that the contracts cite.
+pub mod Load  -- what a column is loaded from, and what is loaded
