@@ -14,7 +14,7 @@ ghost use Rattle.symbolic.specs.Columns.{Tree, Below, Sized, found, colu
 use tables::core::wide;
 
 // The columns that reach column j, at the end of `out` from the returned place on. The mark is j + 1.
-fn walk(
+pub fn walk(
     starts: &[u32],
     rows: &[u32],
     parent: &[u32],
