@@ -4,23 +4,24 @@
 --     few        the products of one column are at most 4,096²
 --     works      the promise
 -- Assumes nothing.
-use Prim.Native.Nat.{ℕ, suc, _+_, _-_, _*_, _≤_, _<_}
+use Prim.Native.Nat.{ℕ, _+_, _-_, _*_, _≤_, _<_}
 use mathlib.Core.Bool.{Bool}
-use mathlib.Core.List.{List, [], _∷_, _++_, map}
+use mathlib.Core.List.{List, [], _∷_, map}
 use mathlib.Core.Logic.{⊎-elim}
 use mathlib.Core.Path.{_≡_, refl, sym, ap, subst, _∙_}
 use native.Mathlib.Omega.{arith}
-use native.Mathlib.Nat.{mul-mono-le}
+use native.Mathlib.Nat.{suc-mul, mul-le-mul}
 use lib.Dec.{T, ltb, ltb→lt}
 use lib.Ieee.{Float}
 use lib.ListN.{length, take, drop, length-drop, length-map, length-append}
 use lib.Seq.{take-add, drop-at, drop-drop, length-take-le}
 use Rattle.graph.specs.Sets.{elem, filter, gather}
 use Rattle.graph.specs.Fill.{made}
-use Rattle.graph.specs.Tree.{treeParent}
-use Rattle.graph.specs.Symbolic.{reach, first, rows}
+use Rattle.graph.specs.Liu.{treeParent}
+use Rattle.graph.specs.Symbolic.{reach, rows}
 use Rattle.graph.specs.Count.{Triple, triple, columnTriples}
 use Rattle.graph.proofs.SetLaws.{decide, elem-cases, elem-head, elem-tail, filter-elim}
+use Rattle.graph.proofs.BoundLaws.{rows-short}
 use Rattle.graph.proofs.SymbolicLaws.{rows-right}
 use Rattle.graph.proofs.TreeLaws.{reach-tree}
 use Rattle.graph.proofs.Whole.{Whole, whole}
@@ -28,19 +29,17 @@ use Rattle.buckets.proofs.Lists.{elem-at}
 use Rattle.tables.specs.Verdict.{at}
 use Rattle.elimination_tree.specs.Tree.{linkedUp}
 use Rattle.elimination_tree.proofs.Links.{linked-symm}
-use Rattle.order.specs.Order.{sizesOf}
-use Rattle.machine.specs.System.{System, order}
-use Rattle.machine.specs.Machine.{State, columnAt, load, products, sequence, worked}
+use Rattle.machine.specs.System.{order}
+use Rattle.machine.specs.Machine.{columnAt, load, products, sequence, worked}
 use Rattle.machine.proofs.ListLaws.{gather-ext}
-use Rattle.block_product.specs.Working.{slot, Apart, Shows}
+use Rattle.block_product.specs.Working.{slot, Shows}
 use Rattle.block_product.proofs.SlotLaws.{at-slot, slot-length}
 use Rattle.column_products.specs.Columns.{Plan, Holds, PlacesFit, FactorsFit}
 use Rattle.reach_products.specs.Reach.{advanced, rowsFrom, reachTriples, ReachFit, ReachProducts}
 use Rattle.reach_products.proofs.ReachLaws.{advanced-length}
 use Rattle.layout.specs.Layout.{Tables, side, startOf, stopOf, rowsAt, onAt, planAt, RowsLaid, DiagonalLaid, Placed}
 use Rattle.layout.proofs.RowLaws.{apart, on-inside}
-use Rattle.finish_column.specs.Finish.{HoldsAll}
-use Rattle.work_column.specs.Work.{nextOf, Next, Grown, Ahead, Works}
+use Rattle.work_column.specs.Work.{nextOf, Next, Works}
 use Rattle.work_column.proofs.NextLaws.{less, less-there, less-more, less-same, from-there, advanced-own, advanced-other}
 
 -- what stands in a part from place m of it on
@@ -56,11 +55,8 @@ gather-few f most (x ∷ l) h =
     let i = gather-few f most l (λ k m. h k (elem-tail k x l m)) in
     let b = h x (elem-head x l) in
     let a = length-append (f x) (gather f l) in
-    let e : suc (length l) * most ≡ most + length l * most = suc-mul (length l) most in
+    let e = suc-mul (length l) most in
     omega arith
-  where
-    suc-mul : (a b : ℕ) → suc a * b ≡ b + a * b
-    suc-mul a b = nlinarith
 
 module _ (t : Tables) (n v w : ℕ) (laid : RowsLaid t n v w) (into upper : List ℕ)
     (grown : (k : ℕ) → k < n → rowsAt t k ≡ rows (linkedUp into upper) n k)
@@ -151,7 +147,7 @@ module _ (t : Tables) (n v w : ℕ) (laid : RowsLaid t n v w) (into upper : List
 
   -- a block's area is at most 256
   area : (i k : ℕ) → i < n → k < n → side t i * side t k ≤ 256
-  area i k hi hk = mul-mono-le (laid .size i hi .1) (laid .size k hk .1)
+  area i k hi hk = mul-le-mul (laid .size i hi .1) (laid .size k hk .1)
 
   module _ (unitStarts dStarts places : List ℕ) (diag d qj qi : ℕ) (diagonal : DiagonalLaid (t .sizes) unitStarts dStarts n diag d)
       (placed : Placed t places j) (as-many : length places ≡ n) (room-j : 256 ≤ qj) (room-i : 256 ≤ qi) where
@@ -169,7 +165,7 @@ module _ (t : Tables) (n v w : ℕ) (laid : RowsLaid t n v w) (into upper : List
           row = λ u l h. let r = laid .row k u hk (omega arith) h .1 in (omega arith, omega arith);
           body = λ u l h. let b = laid .body k u (length (t .lRows)) hk (omega arith) h (omega arith) (omega arith) in let e = laid .bodies in omega arith;
           scaled-row = λ u l h. let a = area (at (t .lRows) u) k (laid .row k u hk (omega arith) h .1) hk in omega arith;
-          block = λ u l h. on-inside t n v w laid j below places placed (at (t .lRows) u) (on-place k m u l h) .0;
+          block = λ u l h. on-inside t laid j below places placed (at (t .lRows) u) (on-place k m u l h) .0;
         }
 
     factors-fit : (k : ℕ) → T (elem k found) → FactorsFit p j k diag d qj
@@ -209,9 +205,9 @@ module _ (t : Tables) (n v w : ℕ) (laid : RowsLaid t n v w) (into upper : List
         → ReachProducts p (t .lStarts) j found next values diag′ d′ c count next′ c′ count′
         → Works t unitStarts dStarts into upper n j places values diag′ d′ c count c′ count′
     unfolding load
-    works values diag′ d′ c c′ count count′ next′ made a s ahead shown =
+    works values diag′ d′ c c′ count count′ next′ did a s ahead shown =
         subst (Shows (side t) (at places) (onAt t j) j c′ count′) same
-        (made .steps (onAt t j) (λ u h. on-from (at found u) (elem-at found u h) p refl) (apart t n v w laid j below places placed) (load a j s) held shown)
+        (did .steps (onAt t j) (λ u h. on-from (at found u) (elem-at found u h) p refl) (apart t laid j below places placed) (load a j s) held shown)
       where
         same : products (side t) (reachTriples p (t .lStarts) next j found) (load a j s) ≡ worked a j s
         same =
@@ -231,13 +227,21 @@ module _ (t : Tables) (n v w : ℕ) (laid : RowsLaid t n v w) (into upper : List
     -- at most 4,096 columns reach j, with at most 4,096 rows each
     pub few : length found ≤ n → n ≤ 4096 → length (reachTriples p (t .lStarts) next j found) ≤ 16777216
     few h most =
-        let g = gather-few (λ k. map (triple j k) (rowsFrom p (t .lStarts) next k)) n found
-            (λ k m. let e = length-map (rowsFrom p (t .lStarts) next k) (triple j k) in rows-few k m e) in
-        let q : length found * n ≤ 4096 * 4096 = mul-mono-le (omega arith) most in
+        let g = gather-few (λ k. map (triple j k) (rowsFrom p (t .lStarts) next k)) n found rows-few in
+        let l : length found ≤ 4096 = omega arith in
+        let q : length found * n ≤ 4096 * 4096 = mul-le-mul l most in
         omega arith
       where
-        rows-few : (k : ℕ) → T (elem k found) → length (map (triple j k) (rowsFrom p (t .lStarts) next k)) ≡ length (rowsFrom p (t .lStarts) next k) → length (map (triple j k) (rowsFrom p (t .lStarts) next k)) ≤ n
-        rows-few k m e = ?
+        rows-few : (k : ℕ) → T (elem k found) → length (map (triple j k) (rowsFrom p (t .lStarts) next k)) ≤ n
+        rows-few k m =
+            let c = laid .column k (in-table k m) in
+            let lo = next-inside k m in
+            let e = length-map (rowsFrom p (t .lStarts) next k) (triple j k) in
+            let r = slot-length (t .lRows) (at next k) (stopOf t k - at next k) (omega arith) in
+            let a = many k (in-table k m) in
+            let g = ap length (grown k (in-table k m)) in
+            let b = rows-short linked n (linked-symm into upper) k (in-table k m) in
+            omega arith
 
   -- ---- the next places afterwards
 
