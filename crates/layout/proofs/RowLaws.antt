@@ -144,7 +144,7 @@ diagonal-laid sizes =
 -- ---- the working column
 
 -- an ascending list by its places
-inc-rises : (l : List ℕ) → Inc l → (i k : ℕ) → i < k → k < length l → at l i < at l k
+pub inc-rises : (l : List ℕ) → Inc l → (i k : ℕ) → i < k → k < length l → at l i < at l k
 inc-rises [] a i k h b = absurd (omega arith)
 inc-rises (x ∷ l) a i zero h b = absurd (omega arith)
 inc-rises (x ∷ l) a zero (suc k) h b = a .0 (at l k) (elem-at l k (omega arith))
