@@ -5,7 +5,7 @@
 --     sum-slot                     a sum over the places of a slot is one over its entries
 -- Assumes nothing.
 use Prim.Native.Nat.{ℕ, zero, suc, _+_, _-_, _≤_, _<_}
-use mathlib.Core.List.{List, [], _∷_, _++_, append-nil, append-assoc}
+use mathlib.Core.List.{List, [], _∷_, _++_, append-assoc}
 use mathlib.Core.Path.{_≡_, refl, sym, ap, _∙_}
 use native.Mathlib.Omega.{arith}
 use native.Mathlib.Numerals.{add-one}
@@ -18,6 +18,7 @@ use Rattle.buckets.proofs.Lists.{from-split}
 use Rattle.tables.specs.Search.{sum}
 use Rattle.tables.specs.Verdict.{at}
 use Rattle.tables.proofs.SearchLaws.{sum-end, sum-next}
+use Rattle.machine.proofs.ListLaws.{gather-last}
 use Rattle.block_product.specs.Working.{slot}
 
 module _ {A : Type 0} where
@@ -30,10 +31,7 @@ module _ {A : Type 0} where
   gather-split f a c d = ap (gather f) (from-split a c d) ∙ gather-append f (from a c) (from (a + c) d)
 
   pub gather-snoc : (f : ℕ → List A) (m : ℕ) → gather f (from 0 (suc m)) ≡ gather f (from 0 m) ++ f m
-  gather-snoc f m =
-      let z : 0 + m ≡ m = omega arith in
-      ap (λ (c : ℕ). gather f (from 0 c)) (sym (add-one m)) ∙ gather-split f 0 m 1
-      ∙ ap (λ (r : List A). gather f (from 0 m) ++ r) (ap (λ (i : ℕ). f i ++ []) z ∙ append-nil (f m))
+  gather-snoc f m = let z : 0 + m ≡ m = omega arith in gather-last f 0 m ∙ ap (λ (i : ℕ). gather f (from 0 m) ++ f i) z
 
   pub gather-slot : (f : ℕ → List A) (n k : ℕ) → k < n → slot (list.sum (from 0 k) (λ i. length (f i))) (length (f k)) (gather f (from 0 n)) ≡ f k
   gather-slot f n k h =

@@ -45,16 +45,16 @@ rows-slot starts rows k = sym (part-slice rows (at starts k) (at starts (k + 1))
 
 -- ---- L's values
 
-module _ (sizes lStarts lRows : List ℕ) (s : Sizes sizes) (c : Columns pastDiagonal (length sizes) lStarts lRows) where
+module _ (sizes lStarts lRows : List ℕ) where
   abbrev n : ℕ
   n = length sizes
 
   abbrev t : Tables
   t = tablesOf sizes lStarts lRows
 
-  module _ (k : ℕ) (h : k < n) where
+  module _ (c : Columns pastDiagonal (length sizes) lStarts lRows) (k : ℕ) (h : k < n) where
     -- the area of a row of column k
-    area-is : (u : ℕ) → startOf t k ≤ u → u < stopOf t k → areaAt sizes lStarts lRows u ≡ side t (at lRows u) * side t k
+    pub area-is : (u : ℕ) → startOf t k ≤ u → u < stopOf t k → areaAt sizes lStarts lRows u ≡ side t (at lRows u) * side t k
     unfolding blockArea
     area-is u lo hi = ap (λ (j : ℕ). at sizes (at lRows u) * at sizes j) (column-is (c .ordered) k u h lo hi)
 
@@ -92,8 +92,8 @@ module _ (sizes lStarts lRows : List ℕ) (s : Sizes sizes) (c : Columns pastDia
         let between = sum-split (areaAt sizes lStarts lRows) 0 (startOf t k) (stopOf t k) (omega arith) up in
         omega arith
 
-  pub rows-laid : RowsLaid (tablesOf sizes lStarts lRows) (length sizes) (areas sizes lStarts lRows) (workNeed sizes)
-  rows-laid =
+  pub rows-laid : Sizes sizes → Columns pastDiagonal (length sizes) lStarts lRows → RowsLaid (tablesOf sizes lStarts lRows) (length sizes) (areas sizes lStarts lRows) (workNeed sizes)
+  rows-laid s c =
       record {
         count = (refl, c .ordered .entries, length-offsets sizes lStarts lRows);
         size = λ k h. (s .positive k h, s .small k);
@@ -101,9 +101,9 @@ module _ (sizes lStarts lRows : List ℕ) (s : Sizes sizes) (c : Columns pastDia
         after = λ k j h le. starts-rise (c .ordered) (k + 1) j (omega arith) le;
         row = λ k u h lo hi. let r = c .ranged k u h lo hi in (omega (arith, r .0), r .1);
         ascends = λ k h. subst Inc (rows-slot lStarts lRows k) (c .increasing k h);
-        body = λ k u v h. body k h u v;
+        body = λ k u v h. body c k h u v;
         bodies = omega (arith, offsets-at sizes lStarts lRows (length lRows) (omega arith));
-        packed = packed;
+        packed = packed c;
       }
 
 -- ---- the working column
