@@ -1,6 +1,9 @@
 -- Where the blocks of L lie, from its tables, and those of the column being worked.
 --     rows-slot       the rows of a column are a slot of the row table
 --     rows-laid       every body of L lies in its values, no two overlap, and every column packed lies in the working column
+--     area-is         the area at a place of column k is that of its row and of k
+--     inc-rises       an ascending list by its places; rows-rise, the same of a column's rows
+--     row-place       a row of a column has a place
 --     on-places       a block of the working column is the diagonal one, or a row of L at its place
 --     apart           its blocks lie apart
 --     on-inside       and inside
