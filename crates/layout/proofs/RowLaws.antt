@@ -1,7 +1,9 @@
--- Where the blocks of a factor lie, from its tables.
+-- Where the blocks of L lie, from its tables, and those of the column being worked.
 --     rows-slot       the rows of a column are a slot of the row table
 --     rows-laid       every body of L lies in its values, no two overlap, and every column packed lies in the working column
---     diagonal-laid   the same of the unit factors and of d
+--     area-is         the area at a place of column k is that of its row and of k
+--     inc-rises       an ascending list by its places; rows-rise, the same of a column's rows
+--     row-place       a row of a column has a place
 --     on-places       a block of the working column is the diagonal one, or a row of L at its place
 --     apart           its blocks lie apart
 --     on-inside       and inside
@@ -13,7 +15,7 @@ use mathlib.Core.Path.{_≡_, refl, sym, ap, subst, _∙_}
 use native.Mathlib.Nat.{eq-or-lt-of-le, add-mul, mul-le-mul-left, mul-le-mul-right}
 use native.Mathlib.Omega.{arith}
 use lib.Dec.{T}
-use lib.ListN.{length, length-map, List·getD-map}
+use lib.ListN.{length}
 use Rattle.graph.specs.Sets.{elem, Inc}
 use Rattle.graph.specs.Links.{rowsIn}
 use Rattle.graph.proofs.SetLaws.{elem-cases}
@@ -26,24 +28,18 @@ use Rattle.tables.specs.Verdict.{at, blockArea, areaAt, areas, pastDiagonal}
 use Rattle.tables.specs.Sound.{Sizes, Columns}
 use Rattle.tables.proofs.SearchLaws.{lt-or-ge, sum-end, sum-next, sum-split}
 use Rattle.tables.proofs.ColumnLaws.{starts-rise, column-is}
-use Rattle.scalars.specs.Scalars.{scalarStarts, scalarCount}
 use Rattle.scalars.specs.Bodies.{offsets}
-use Rattle.scalars.proofs.ScalarLaws.{runs-apart, starts-at, length-starts}
+use Rattle.scalars.proofs.ScalarLaws.{runs-apart}
 use Rattle.scalars.proofs.BodyLaws.{offset-next, length-offsets, offsets-at}
 use Rattle.block_product.specs.Working.{slot, Apart}
 use Rattle.block_product.proofs.SlotLaws.{at-slot, slot-length}
-use Rattle.layout.specs.Layout.{Tables, tablesOf, side, startOf, stopOf, rowsAt, onAt, RowsLaid, Placed, squares, unitStartsOf, DiagonalLaid, unitsNeed, widest, workNeed}
+use Rattle.layout.specs.Layout.{Tables, tablesOf, side, startOf, stopOf, rowsAt, onAt, RowsLaid, Placed, widest, workNeed}
+use Rattle.layout.proofs.DiagonalLaws.{widest-at}
 
--- ---- sums and the greatest dimension
+-- ---- sums
 
 before-rises : (sizes : List ℕ) (a b : ℕ) → a ≤ b → before sizes a ≤ before sizes b
 before-rises sizes a b h = ⊎-elim (λ (e : a ≡ b). rw e (omega arith)) (λ (l : a < b). omega (arith, runs-apart sizes a b l)) (eq-or-lt-of-le h)
-
-pub widest-at : (sizes : List ℕ) (k : ℕ) → at sizes k ≤ widest sizes
-unfolding widest
-widest-at [] k = omega arith
-widest-at (s ∷ sizes) zero = omega arith
-widest-at (s ∷ sizes) (suc k) = let r = widest-at sizes k in omega arith
 
 -- ---- the rows of a column
 
@@ -52,16 +48,16 @@ rows-slot starts rows k = sym (part-slice rows (at starts k) (at starts (k + 1))
 
 -- ---- L's values
 
-module _ (sizes lStarts lRows : List ℕ) (s : Sizes sizes) (c : Columns pastDiagonal (length sizes) lStarts lRows) where
+module _ (sizes lStarts lRows : List ℕ) where
   abbrev n : ℕ
   n = length sizes
 
   abbrev t : Tables
   t = tablesOf sizes lStarts lRows
 
-  module _ (k : ℕ) (h : k < n) where
+  module _ (c : Columns pastDiagonal (length sizes) lStarts lRows) (k : ℕ) (h : k < n) where
     -- the area of a row of column k
-    area-is : (u : ℕ) → startOf t k ≤ u → u < stopOf t k → areaAt sizes lStarts lRows u ≡ side t (at lRows u) * side t k
+    pub area-is : (u : ℕ) → startOf t k ≤ u → u < stopOf t k → areaAt sizes lStarts lRows u ≡ side t (at lRows u) * side t k
     unfolding blockArea
     area-is u lo hi = ap (λ (j : ℕ). at sizes (at lRows u) * at sizes j) (column-is (c .ordered) k u h lo hi)
 
@@ -99,8 +95,8 @@ module _ (sizes lStarts lRows : List ℕ) (s : Sizes sizes) (c : Columns pastDia
         let between = sum-split (areaAt sizes lStarts lRows) 0 (startOf t k) (stopOf t k) (omega arith) up in
         omega arith
 
-  pub rows-laid : RowsLaid (tablesOf sizes lStarts lRows) (length sizes) (areas sizes lStarts lRows) (workNeed sizes)
-  rows-laid =
+  pub rows-laid : Sizes sizes → Columns pastDiagonal (length sizes) lStarts lRows → RowsLaid (tablesOf sizes lStarts lRows) (length sizes) (areas sizes lStarts lRows) (workNeed sizes)
+  rows-laid s c =
       record {
         count = (refl, c .ordered .entries, length-offsets sizes lStarts lRows);
         size = λ k h. (s .positive k h, s .small k);
@@ -108,43 +104,15 @@ module _ (sizes lStarts lRows : List ℕ) (s : Sizes sizes) (c : Columns pastDia
         after = λ k j h le. starts-rise (c .ordered) (k + 1) j (omega arith) le;
         row = λ k u h lo hi. let r = c .ranged k u h lo hi in (omega (arith, r .0), r .1);
         ascends = λ k h. subst Inc (rows-slot lStarts lRows k) (c .increasing k h);
-        body = λ k u v h. body k h u v;
+        body = λ k u v h. body c k h u v;
         bodies = omega (arith, offsets-at sizes lStarts lRows (length lRows) (omega arith));
-        packed = packed;
+        packed = packed c;
       }
-
--- ---- the diagonal
-
-pub length-squares : (sizes : List ℕ) → length (squares sizes) ≡ length sizes
-unfolding squares
-length-squares sizes = length-map {A = ℕ} {B = ℕ} sizes (λ s. s * s)
-
-pub squares-at : (sizes : List ℕ) (k : ℕ) → at (squares sizes) k ≡ at sizes k * at sizes k
-unfolding squares
-squares-at sizes k = List·getD-map {A = ℕ} {B = ℕ} (λ s. s * s) sizes k 0
-
--- runs of the given sizes, one behind the other
-runs : (sizes : List ℕ) (k j : ℕ) → k < j → j ≤ length sizes → at (scalarStarts sizes) k + at sizes k ≤ at (scalarStarts sizes) j
-runs sizes k j h le = omega (arith, starts-at sizes k (omega arith), starts-at sizes j le, runs-apart sizes k j h)
-
-runs-end : (sizes : List ℕ) → at (scalarStarts sizes) (length sizes) ≤ scalarCount sizes
-runs-end sizes = omega (arith, starts-at sizes (length sizes) (omega arith))
-
-pub diagonal-laid : (sizes : List ℕ) → DiagonalLaid sizes (unitStartsOf sizes) (scalarStarts sizes) (length sizes) (unitsNeed sizes) (scalarCount sizes)
-diagonal-laid sizes =
-    let l = length-squares sizes in
-    record {
-      count = (refl, length-starts (squares sizes) ∙ ap (λ (m : ℕ). m + 1) l, length-starts sizes);
-      unit = λ k j h le. omega (arith, squares-at sizes k, runs (squares sizes) k j h (omega arith));
-      units = subst (λ (m : ℕ). at (unitStartsOf sizes) m ≤ unitsNeed sizes) l (runs-end (squares sizes));
-      pivots = runs sizes;
-      all-pivots = runs-end sizes;
-    }
 
 -- ---- the working column
 
 -- an ascending list by its places
-inc-rises : (l : List ℕ) → Inc l → (i k : ℕ) → i < k → k < length l → at l i < at l k
+pub inc-rises : (l : List ℕ) → Inc l → (i k : ℕ) → i < k → k < length l → at l i < at l k
 inc-rises [] a i k h b = absurd (omega arith)
 inc-rises (x ∷ l) a i zero h b = absurd (omega arith)
 inc-rises (x ∷ l) a zero (suc k) h b = a .0 (at l k) (elem-at l k (omega arith))
