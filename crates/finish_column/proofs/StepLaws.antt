@@ -22,6 +22,11 @@ use Rattle.finish_column.specs.Steps.{BlockFit, Decomposes, StoreFit, St
 
 -- ---- the diagonal block
 
+-- what it needs is the same with lists that are as long
+pub block-later : (sizes places unitStarts dStarts : List ℕ) (j c diag diag′ d d′ : ℕ) → diag′ ≡ diag → d′ ≡ d
+    → BlockFit sizes places unitStarts dStarts j c diag d → BlockFit sizes places unitStarts dStarts j c diag′ d′
+block-later sizes places unitStarts dStarts j c diag diag′ d d′ e f h = rw (e, f) h
+
 -- its unit factor and d are written to their places
 pub decomposes : (sizes places unitStarts dStarts : List ℕ) (j : ℕ) (tol : Float) (c diag d : List Float) (r : Settled) (unit pivots : List Float)
     → BlockFit sizes places unitStarts dStarts j (length c) (length diag) (length d) → length unit ≡ at sizes j * at sizes j → length pivots ≡ at sizes j

@@ -1,101 +1,53 @@
--- `finish_column::core::store_at` meets its contract. Assumes nothing.
+-- `finish_column::core::store_at` meets its contract: the lent parts are the slots of the promise. Assumes nothing.
+use Prim.Native.Nat.{_+_, _*_}
+use mathlib.Core.Path.{_∙_}
+use native.Mathlib.Nat.{add-sub-cancel-left}
+use denote.Ref.{now}
 use borrow.Author.Needs.{needs}
+use borrow.Rule.Slice.PartMut.{mid-len}
+use Rattle.tables.specs.Verdict.{at}
 use Rattle.finish_column.proofs.core.store_at.Statement.{statement}
 use Rattle.finish_column.proofs.core.store_at.Tie as tie
 
-mul-w : tie.Need-mul-w
-mul-w c = search needs
-
-shared-slice-read-w : tie.Need-shared-slice-read-w
-shared-slice-read-w c = search needs
-
-cast-w : tie.Need-cast-w
-cast-w c = search needs
-
-mul-u : tie.Need-mul-u
-mul-u c = search needs
-
-shared-slice-read-u : tie.Need-shared-slice-read-u
-shared-slice-read-u c = search needs
-
-cast-u : tie.Need-cast-u
-cast-u c = search needs
-
-mul-u-end : tie.Need-mul-u-end
-mul-u-end c = search needs
-
-add-u-end : tie.Need-add-u-end
-add-u-end c = search needs
-
-mul-s : tie.Need-mul-s
-mul-s c = search needs
-
-shared-slice-read-s : tie.Need-shared-slice-read-s
-shared-slice-read-s c = search needs
-
-cast-s : tie.Need-cast-s
-cast-s c = search needs
-
-add-s-end : tie.Need-add-s-end
-add-s-end c = search needs
-
-mul-store-rows : tie.Need-mul-store-rows
-mul-store-rows c = search needs
-
-sub-store-rows : tie.Need-sub-store-rows
-sub-store-rows c = search needs
-
-part-store-rows-start : tie.Need-part-store-rows-start
-part-store-rows-start c = search needs
-
-part-store-rows-end : tie.Need-part-store-rows-end
-part-store-rows-end c = search needs
-
-mul-store-rows-2 : tie.Need-mul-store-rows-2
-mul-store-rows-2 c = search needs
-
-sub-store-rows-2 : tie.Need-sub-store-rows-2
-sub-store-rows-2 c = search needs
-
-part-store-rows-start-2 : tie.Need-part-store-rows-start-2
-part-store-rows-start-2 c = search needs
-
-part-store-rows-end-2 : tie.Need-part-store-rows-end-2
-part-store-rows-end-2 c = search needs
-
 store-rows-requires : tie.Need-store-rows-requires
-store-rows-requires c κs = ?
-
-same-length : tie.Need-same-length
-same-length c = search needs
+store-rows-requires c κs =
+    let s = c .before .before .before .before .before .before .before .before .before .before .before .before .before .before .before .before in
+    let x = s .args in
+    let f = s .pre .0 in
+    let w = at (now (x .sizes)) (x .j) in
+    let u = at (now (x .unit-starts)) (x .j) in
+    let o = at (now (x .d-starts)) (x .j) in (
+      s .pre .1,
+      (f .known .0, mid-len u (u + w * w) (now (x .diag)) (f .unit) ∙ add-sub-cancel-left _ _, mid-len o (o + w) (now (x .d)) (f .of-d) ∙ add-sub-cancel-left _ _),
+    )
 
 returns : tie.Need-returns
-returns c = ?
+returns c = simp add-sub-cancel-left at (c .before .before .store-rows .ensures)
 
 pub store-at-spec : {M : Type 1} → statement M
 store-at-spec =
     tie.close
     (tie.spec
-    mul-w
-    shared-slice-read-w
-    cast-w
-    mul-u
-    shared-slice-read-u
-    cast-u
-    mul-u-end
-    add-u-end
-    mul-s
-    shared-slice-read-s
-    cast-s
-    add-s-end
-    mul-store-rows
-    sub-store-rows
-    part-store-rows-start
-    part-store-rows-end
-    mul-store-rows-2
-    sub-store-rows-2
-    part-store-rows-start-2
-    part-store-rows-end-2
+    (λ c. search needs)
+    (λ c. search needs)
+    (λ c. search needs)
+    (λ c. search needs)
+    (λ c. search needs)
+    (λ c. search needs)
+    (λ c. search needs)
+    (λ c. search needs)
+    (λ c. search needs)
+    (λ c. search needs)
+    (λ c. search needs)
+    (λ c. search needs)
+    (λ c. search needs)
+    (λ c. search needs)
+    (λ c. search needs)
+    (λ c. search needs)
+    (λ c. search needs)
+    (λ c. search needs)
+    (λ c. search needs)
+    (λ c. search needs)
     store-rows-requires
-    same-length
+    (λ c. search needs)
     returns)
