@@ -1,5 +1,5 @@
 -- The flat lists of a factorization after the machine's first columns, and one column more. Assumes nothing.
-use Prim.Native.Nat.{ℕ, suc, _<_}
+use Prim.Native.Nat.{ℕ, suc, _+_, _*_, _≤_, _<_}
 use mathlib.Core.List.{List}
 use mathlib.Core.Path.{_≡_}
 use lib.Ieee.{Float}
@@ -15,6 +15,12 @@ use Rattle.load_column.specs.Load.{Fed}
 use Rattle.finish_column.specs.Finish.{HoldsAll}
 use Rattle.factor_column.specs.declared.core.Turned.{Turned}
 use Rattle.factor_column.specs.declared.core.Turned.the-variants.{Stored, NotFinite, Poor}
+
+-- the count so far: at most 4,096² for each column
+abbrev pub Counted : ℕ → Turned → Type 0
+Counted j (Stored count) = count ≤ 16777216 * (j + 1)
+Counted j (NotFinite place pivot) = Unit {0}
+Counted j (Poor condition) = Unit {0}
 
 -- what a system is fed with, and the order of its elimination
 pub record Given : Type 0 where

@@ -10,7 +10,7 @@ ghost use Rattle.symbolic.specs.Columns.{Below};
 ghost use Rattle.layout.specs.Layout.{tables, RowsLaid, DiagonalLaid};
 ghost use Rattle.load_column.specs.Load.{Source};
 ghost use Rattle.work_column.specs.Work.{Next, Grown};
-ghost use Rattle.factor_column.specs.Turn.{given, Turns};
+ghost use Rattle.factor_column.specs.Turn.{given, Turns, Counted};
 
 // How a column ends.
 pub enum Turned {
