@@ -3,7 +3,7 @@
 --     block-fits, rows-fit    what the steps need, from how the blocks lie
 --     not-finite, poor, stored    the three ways out
 -- Assumes nothing.
-use Prim.Native.Nat.{ℕ, suc, _+_, _-_, _*_, _≤_, _<_}
+use Prim.Native.Nat.{ℕ, _+_, _-_, _*_, _≤_, _<_}
 use mathlib.Core.List.{List, [], _∷_, _++_}
 use mathlib.Core.Path.{_≡_, refl, sym, ap, subst, _∙_}
 use native.Mathlib.Decide.{decLt}
@@ -21,12 +21,12 @@ use Rattle.block_diag_ldlt.specs.Block.{blockLdlt}
 use Rattle.block_diag_ldlt.specs.declared.core.Settled.{Settled}
 use Rattle.block_diag_ldlt.specs.declared.core.Settled.the-variants.{Accepted, NotFinite, Poor}
 use Rattle.tables.specs.Verdict.{at}
-use Rattle.machine.specs.System.{System, dim}
+use Rattle.machine.specs.System.{System}
 use Rattle.machine.specs.Machine.{State, Column, noColumn, bodyOr, solved, settledBy, finish}
 use Rattle.block_product.specs.Working.{slot}
 use Rattle.block_product.proofs.SlotLaws.{at-slot, slot-length}
 use Rattle.column_products.specs.Columns.{Holds}
-use Rattle.layout.specs.Layout.{Tables, tables, side, startOf, stopOf, rowsAt, onAt, planAt, RowsLaid, Placed, DiagonalLaid}
+use Rattle.layout.specs.Layout.{Tables, side, startOf, stopOf, rowsAt, onAt, planAt, RowsLaid, Placed, DiagonalLaid}
 use Rattle.finish_column.specs.Steps.{BlockFit, Decomposes, StoreFit, Stores}
 use Rattle.finish_column.specs.Finish.{HoldsAll, Ended, Before, Finishes}
 

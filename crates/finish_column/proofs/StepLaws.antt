@@ -48,12 +48,14 @@ module _ (sizes places rows offsets : List ℕ) (j from : ℕ) (unit d c values�
   UpTo u values = Stores sizes places rows offsets j from u unit d c values₀ values
 
   -- the block of the row at place u, right-solved
-  abbrev pub solved : ℕ → List Float
+  abbrev solved : ℕ → List Float
   solved u = ldltRightMatsolve (at sizes (at rows u)) (at sizes j) unit d (slot (at places (at rows u)) (at sizes (at rows u) * at sizes j) c)
 
+  -- where it begins
   pub none-stored : UpTo from values₀
   none-stored = record { own = λ u le lt. absurd (omega arith); before = λ o n h. refl }
 
+  -- a turn: the body of the row at place u is written, and the others stay
   pub one-more : (end u : ℕ) (values values′ : List Float) → StoreFit sizes places rows offsets j from end (length c) (length values)
       → from ≤ u → u < end → UpTo u values → length (solved u) ≡ at sizes (at rows u) * at sizes j
       → values′ ≡ within (at offsets u) (at sizes (at rows u) * at sizes j) (λ x. solved u) values → UpTo (u + 1) values′
@@ -64,16 +66,17 @@ module _ (sizes places rows offsets : List ℕ) (j from : ℕ) (unit d c values�
             rw e (slot-other (at offsets u) _ (λ x. solved u) values (fits .body u le lt) long o n (inl (h u le (omega arith))) ∙ up .before o n (λ v le′ lt′. h v le′ (omega arith)));
       }
     where
-      now : List Float
-      now = within (at offsets u) (at sizes (at rows u) * at sizes j) (λ x. solved u) values
+      written : List Float
+      written = within (at offsets u) (at sizes (at rows u) * at sizes j) (λ x. solved u) values
 
-      at-row : (v : ℕ) → from ≤ v → v < u + 1 → Dec (v < u) → slot (at offsets v) (at sizes (at rows v) * at sizes j) now ≡ solved v
+      at-row : (v : ℕ) → from ≤ v → v < u + 1 → Dec (v < u) → slot (at offsets v) (at sizes (at rows v) * at sizes j) written ≡ solved v
       at-row v le′ lt′ (yes l) =
           slot-other (at offsets u) _ (λ x. solved u) values (fits .body u le lt) long (at offsets v) _ (inl (fits .after v u le′ l lt)) ∙ up .own v le′ l
       at-row v le′ lt′ (no l) =
           let e : u ≡ v = omega arith in
-          subst (λ (v : ℕ). slot (at offsets v) (at sizes (at rows v) * at sizes j) now ≡ solved v) e
+          subst (λ (v : ℕ). slot (at offsets v) (at sizes (at rows v) * at sizes j) written ≡ solved v) e
           (slot-written (at offsets u) _ (λ x. solved u) values (fits .body u le lt) long)
 
+  -- where it ends
   pub all-stored : (end u : ℕ) (values : List Float) → u ≤ end → end ≤ u → UpTo u values → UpTo end values
   all-stored end u values le ge up = subst (λ (u : ℕ). UpTo u values) (le-antisymm le ge) up

@@ -22,7 +22,8 @@ module _ (sizes places unitStarts dStarts : List ℕ) (j : ℕ) where
 
   -- what is promised: the answer is that of the block, whose unit factor and d stand in their places; before them nothing is changed
   pub record Decomposes (tol : Float) (c diag d : List Float) (r : Settled) (diag′ d′ : List Float) : Type 0 where
-    pub factors : (r, slot (at unitStarts j) (at sizes j * at sizes j) diag′, slot (at dStarts j) (at sizes j) d′) ≡ blockLdlt (at sizes j) tol (slot (at places j) (at sizes j * at sizes j) c)
+    pub factors : (r, slot (at unitStarts j) (at sizes j * at sizes j) diag′, slot (at dStarts j) (at sizes j) d′)
+        ≡ blockLdlt (at sizes j) tol (slot (at places j) (at sizes j * at sizes j) c)
     pub units-before : (o n : ℕ) → o + n ≤ at unitStarts j → slot o n diag′ ≡ slot o n diag
     pub d-before : (o n : ℕ) → o + n ≤ at dStarts j → slot o n d′ ≡ slot o n d
 

@@ -4,7 +4,7 @@ use block_diag_ldlt::core::decompose_core;
 use dense_solve_right::core::ldlt_right_matsolve_core;
 use scalar::core::copy;
 ghost use mathlib.Core.Path.{_≡_};
-ghost use Prim.Native.Nat.{_+_, _*_, _≤_, _<_, _^_};
+ghost use Prim.Native.Nat.{_*_, _<_};
 ghost use lib.ListN.{length};
 ghost use Rattle.tables.specs.Verdict.{at};
 ghost use Rattle.dense_solve_right.specs.SolveRight.{ldltRightMatsolve};
@@ -13,8 +13,8 @@ ghost use Rattle.layout.specs.Layout.{tables, RowsLaid, Placed, DiagonalLaid};
 ghost use Rattle.finish_column.specs.Steps.{BlockFit, Decomposes, StoreFit, Stores};
 ghost use Rattle.finish_column.specs.Finish.{Finishes};
 
-// The diagonal block of column j is decomposed, its unit factor and d go to their places; where that is refused, the answer is all
-// that is left. Otherwise the rows of the column go to theirs.
+// The diagonal block of column j is decomposed, and its unit factor and d go to their places. Where that is refused they are NaNs, and
+// no row is stored; otherwise the rows of the column, solved by them from the right, go to their places in L's values.
 pub fn finish_column(
     sizes: &[u32],
     places: &[u32],
@@ -94,7 +94,7 @@ fn decompose_at(
     )
 }
 
-// The rows of column j, at places `from` to `end` of the tables, go to theirs, by the unit factor and d that stand in diag and d.
+// The same for its rows, at places `from` to `end` of the tables, with the factors that stand in diag and d.
 fn store_at(
     sizes: &[u32],
     places: &[u32],
@@ -134,7 +134,7 @@ fn store_at(
     );
 }
 
-// The same, by the unit factor `unit` and d.
+// The rows of column j, at places `from` to `end` of the tables, are solved by the unit factor and d, and go to their places in L's values.
 fn store_rows(
     sizes: &[u32],
     places: &[u32],

@@ -1,8 +1,7 @@
 -- `finish_column::core::decompose_at` meets its contract: the lent parts are put back as the decomposition left them (`decomposes`). Assumes nothing.
-use Prim.Native.Nat.{_+_, _-_, _*_}
-use mathlib.Core.Path.{_≡_, _∙_}
+use Prim.Native.Nat.{_+_, _*_}
+use mathlib.Core.Path.{_∙_}
 use native.Mathlib.Nat.{add-sub-cancel-left}
-use lib.ListN.{length}
 use denote.Ref.{now}
 use borrow.Author.Needs.{needs}
 use borrow.Rule.Slice.PartMut.{mid-len}
