@@ -52,7 +52,7 @@ module _ (t : Tables) (unitStarts dStarts : List ℕ) where
       (works : Works t unitStarts dStarts into upper (length (g .dims)) j places values diag d c count c′ count′)
       (r : Settled) (values′ diag′ d′ : List Float) (finishes : Finishes t unitStarts dStarts (g .tol) j places c′ values diag d (r, values′, diag′, d′)) where
     module _ (a : System) (served : Served t into upper g a) (up : UpTo t unitStarts dStarts a j values diag d count) where
-      s : State
+      abbrev s : State
       s = up .state
 
       many : blocks a ≡ length (g .dims)

@@ -1,0 +1,2 @@
+-- The written definitions that the contracts cite.
+pub mod Columns  -- how the loop over the columns ends
