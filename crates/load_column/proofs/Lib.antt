@@ -1,3 +1,5 @@
 -- What belongs to no one function.
 pub mod FindLaws  -- the search by halving
 pub mod BodyLaws  -- the loops that load a body
+pub mod StoredLaws  -- A's block, stored or not
+pub mod SourceLaws  -- what a column is loaded from
