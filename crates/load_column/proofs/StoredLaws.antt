@@ -66,20 +66,23 @@ module _ {dims starts rows : List ℕ} {values : List Float} {bodies : List ℕ}
               ∙ ap (λ (m : ℕ). at dims m * at dims (columnOf starts (length dims) p)) (s .here) ∙ ap (λ (m : ℕ). at dims row * at dims m) (s .of);
         }
 
-    pub block-found : (above : Bool) → added (landed above (at dims row) (at dims column) (slot (at bodies p) (at bodies (p + 1) - at bodies p) values)) ≡ storedBlock dims starts rows values above row column
+    -- so this is loaded
+    pub found-is : (above : Bool) → storedBlock dims starts rows values above row column ≡ added (landed above (at dims row) (at dims column) (bodyAt dims starts rows values p))
     unfolding storedBlock
-    block-found above =
+    found-is above =
         let t : ltb (placeOf starts rows row column) (at starts (column + 1)) ≡ true = subst (λ (m : ℕ). ltb m (at starts (column + 1)) ≡ true) e (lt-ltb p (at starts (column + 1)) found) in
-        ap (λ (b : List Float). added (landed above (at dims row) (at dims column) b)) (sym between ∙ ap (bodyAt dims starts rows values) e)
-        ∙ sym (ap (λ (b : Bool). cond b (added (landed above (at dims row) (at dims column) (bodyAt dims starts rows values (placeOf starts rows row column)))) (zeros (at dims row * at dims column))) t)
+        rw t (ap (λ (q : ℕ). added (landed above (at dims row) (at dims column) (bodyAt dims starts rows values q))) (sym e))
+
+    pub block-found : (above : Bool) → added (landed above (at dims row) (at dims column) (slot (at bodies p) (at bodies (p + 1) - at bodies p) values)) ≡ storedBlock dims starts rows values above row column
+    block-found above = ap (λ (b : List Float). added (landed above (at dims row) (at dims column) b)) (sym between) ∙ sym (found-is above)
 
   -- ---- it is not
 
-  pub block-missing : (p : ℕ) (e : p ≡ placeOf starts rows row column) (none : at starts (column + 1) ≤ p) (above : Bool) → zeros (at dims row * at dims column) ≡ storedBlock dims starts rows values above row column
+  pub missing-is : (p : ℕ) (e : p ≡ placeOf starts rows row column) (none : at starts (column + 1) ≤ p) (above : Bool) → storedBlock dims starts rows values above row column ≡ zeros (at dims row * at dims column)
   unfolding storedBlock
-  block-missing p e none above =
+  missing-is p e none above =
       let t : ltb (placeOf starts rows row column) (at starts (column + 1)) ≡ false = subst (λ (m : ℕ). ltb m (at starts (column + 1)) ≡ false) e (le-ltb p (at starts (column + 1)) none) in
-      sym (ap (λ (b : Bool). cond b (added (landed above (at dims row) (at dims column) (bodyAt dims starts rows values (placeOf starts rows row column)))) (zeros (at dims row * at dims column))) t)
+      rw t
 
 -- ---- by new numbers
 

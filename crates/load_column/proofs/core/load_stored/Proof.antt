@@ -1,11 +1,11 @@
 -- `load_column::core::load_stored` meets its contract: found (`fits` says that the body lies in the values), or not. Assumes nothing.
 use Prim.Native.Nat.{_+_}
-use mathlib.Core.Path.{_≡_, ap, _∙_}
+use mathlib.Core.Path.{_≡_, sym, ap, _∙_}
 use native.Mathlib.Omega.{arith}
 use borrow.Author.Needs.{needs}
 use denote.Ref.{now}
 use Rattle.scalar.specs.Block.{zeros}
-use Rattle.load_column.proofs.StoredLaws.{BodyFits, column-rises, stored-fits, block-found, block-missing}
+use Rattle.load_column.proofs.StoredLaws.{BodyFits, column-rises, stored-fits, block-found, missing-is}
 use Rattle.load_column.proofs.core.load_stored.Statement.{statement}
 use Rattle.load_column.proofs.core.load_stored.Tie as tie
 
@@ -27,7 +27,7 @@ returns-2 : tie.Need-returns-2
 returns-2 c =
     let s = c .before .before .before .before .before .before .before .before .before .before .before .before .before in
     let p = c .before .before .before .before .before .before .find-row in
-    c .before .before .clear .ensures ∙ ap zeros (s .pre .1 .2) ∙ block-missing (s .pre .0) (s .args .row) (s .args .column) (s .pre .1 .1) (p .result) (p .ensures) (c .before .before .before .before .if1 .left) (s .args .above)
+    c .before .before .clear .ensures ∙ ap zeros (s .pre .1 .2) ∙ sym (missing-is (s .pre .0) (s .args .row) (s .args .column) (s .pre .1 .1) (p .result) (p .ensures) (c .before .before .before .before .if1 .left) (s .args .above))
 
 pub load-stored-spec : {M : Type 1} → statement M
 load-stored-spec =
