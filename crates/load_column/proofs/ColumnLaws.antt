@@ -82,14 +82,17 @@ module _ (t : Tables) (j : ℕ) where
         omega arith
 
     module _ (block : ℕ → List Float) (long : (i : ℕ) → i < n → length (block i) ≡ side t i * side t j) (places : List ℕ) (c : List Float) (all : length places ≡ n) (room : length c ≡ m) where
-      pub up-none : UpTo block (set places j 0) (within 0 (side t j * side t j) (λ _. block j) c) (startOf t j)
-      up-none =
+      begun : UpTo block (set places j 0) (within 0 (side t j * side t j) (λ _. block j) c) (startOf t j)
+      begun =
           record {
             own = getD-set-same places j 0 0 (omega arith);
             own-block = slot-written 0 (side t j * side t j) (λ _. block j) c (omega (arith, laid .packed j h)) (long j h);
             row = λ v a b. absurd (omega arith);
             row-block = λ v a b. absurd (omega arith);
           }
+
+      pub up-none : (places′ : List ℕ) (c′ : List Float) → (places′ ≡ set places j 0) × (c′ ≡ within 0 (side t j * side t j) (λ _. block j) c) → UpTo block places′ c′ (startOf t j)
+      up-none places′ c′ e = rw (e .0, e .1) begun
 
       module _ (u : ℕ) (lo : startOf t j ≤ u) (hi : u < stopOf t j) (up : UpTo block places c u) where
         f : RowFits n m u
@@ -101,8 +104,8 @@ module _ (t : Tables) (j : ℕ) where
         keeps : length (block (rowAt u)) ≡ side t (rowAt u) * side t j
         keeps = long (rowAt u) (f .known .3)
 
-        pub up-more : UpTo block (set places (rowAt u) (placeAt u)) (within (placeAt u) (side t (rowAt u) * side t j) (λ _. block (rowAt u)) c) (u + 1)
-        up-more =
+        turned : UpTo block (set places (rowAt u) (placeAt u)) (within (placeAt u) (side t (rowAt u) * side t j) (λ _. block (rowAt u)) c) (u + 1)
+        turned =
             record {
               own = getD-set-other places (rowAt u) j (placeAt u) 0 (λ e. absurd (omega (arith, f .known .2))) ∙ up .own;
               own-block = slot-other (placeAt u) (side t (rowAt u) * side t j) (λ _. block (rowAt u)) c fits keeps 0 (side t j * side t j) (inl (omega arith)) ∙ up .own-block;
@@ -117,25 +120,32 @@ module _ (t : Tables) (j : ℕ) where
                   (eq-or-lt-of-le (omega (arith, b)));
             }
 
+        pub up-more : (places′ : List ℕ) (c′ : List Float)
+            → (places′ ≡ set places (rowAt u) (placeAt u)) × (c′ ≡ within (placeAt u) (side t (rowAt u) * side t j) (λ _. block (rowAt u)) c) → UpTo block places′ c′ (u + 1)
+        up-more places′ c′ e = rw (e .0, e .1) turned
+
     -- ---- all rows are done
 
-    module _ {block : ℕ → List Float} {places : List ℕ} {c : List Float} (up : UpTo block places c (stopOf t j)) where
+    -- each block of the column is a row of it, by its place, or the diagonal one
+    on-cases : (P : ℕ → Type 0) → P j → ((v : ℕ) → startOf t j ≤ v → v < stopOf t j → P (rowAt v)) → (i : ℕ) → T (elem i (onAt t j)) → P i
+    on-cases P own row i e = ⊎-elim (λ q. subst P (sym q) own) other (elem-cases i j (rowsAt t j) e)
+      where
+        other : T (elem i (rowsAt t j)) → P i
+        other e =
+            let s = startOf t j in
+            let stop = laid .column j h in
+            let p = place-of i (rowsAt t j) e in
+            let k : p .0 < stopOf t j - s = omega (arith, p .1, slot-length (t .lRows) s (stopOf t j - s) (omega arith)) in
+            subst P (sym (at-slot (t .lRows) s (stopOf t j - s) (p .0) k) ∙ p .2) (row (s + p .0) (omega arith) (omega arith))
+
+    pub on-inside : (i : ℕ) → T (elem i (onAt t j)) → (j ≤ i) × (i < n)
+    on-inside = on-cases (λ i. (j ≤ i) × (i < n)) (omega arith, h) (λ v a b. let r = laid .row j v h a b in (omega arith, r .1))
+
+    module _ {block : ℕ → List Float} {places : List ℕ} {c : List Float} {u : ℕ} (all : stopOf t j ≤ u) (up : UpTo block places c u) where
       pub up-placed : Placed t places j
-      up-placed = record { own = up .own; row = up .row }
+      up-placed = record { own = up .own; row = λ v a b. up .row v a (omega arith) }
 
       pub up-blocks : (i : ℕ) → T (elem i (onAt t j)) → slot (at places i) (side t i * side t j) c ≡ block i
-      up-blocks i e = ⊎-elim own other (elem-cases i j (rowsAt t j) e)
-        where
-          own : i ≡ j → slot (at places i) (side t i * side t j) c ≡ block i
-          own e = subst (λ (k : ℕ). slot (at places k) (side t k * side t j) c ≡ block k) (sym e) (ap (λ (p : ℕ). slot p (side t j * side t j) c) (up .own) ∙ up .own-block)
-
-          other : T (elem i (rowsAt t j)) → slot (at places i) (side t i * side t j) c ≡ block i
-          other e =
-              let s = startOf t j in
-              let stop = laid .column j h in
-              let p = place-of i (rowsAt t j) e in
-              let k : p .0 < stopOf t j - s = omega (arith, p .1, slot-length (t .lRows) s (stopOf t j - s) (omega arith)) in
-              let is : rowAt (s + p .0) ≡ i = sym (at-slot (t .lRows) s (stopOf t j - s) (p .0) k) ∙ p .2 in
-              let done = up .row-block (s + p .0) (omega arith) (omega arith) in
-              let here = up .row (s + p .0) (omega arith) (omega arith) in
-              subst (λ (r : ℕ). slot (at places r) (side t r * side t j) c ≡ block r) is (ap (λ (q : ℕ). slot q (side t (rowAt (s + p .0)) * side t j) c) here ∙ done)
+      up-blocks =
+          on-cases (λ i. slot (at places i) (side t i * side t j) c ≡ block i) (ap (λ (p : ℕ). slot p (side t j * side t j) c) (up .own) ∙ up .own-block)
+          (λ v a b. ap (λ (p : ℕ). slot p (side t (rowAt v) * side t j) c) (up .row v a (omega arith)) ∙ up .row-block v a (omega arith))

@@ -2,6 +2,7 @@
 --     inverse-holds   the machine's inverse of an order is its inverse
 --     block-length    a loaded block has as many numbers as the two dimensions say
 --     block-is        it is the machine's loaded row
+--     column-loaded   and so where all rows of a column are done, the column is loaded
 -- Assumes nothing.
 use Prim.Native.Nat.{ℕ, _+_, _-_, _*_, _<_, _≤_, min, max}
 use mathlib.Core.Bool.{Bool, true, false, cond, not, _&&_}
@@ -33,10 +34,12 @@ use Rattle.scalars.proofs.BodyLaws.{landed-length, body-area}
 use Rattle.scalars.proofs.PlaceLaws.{Stored}
 use Rattle.machine.specs.System.{System, inverseOf, loaded, loadedRow}
 use Rattle.machine.specs.Machine.{bodyOr}
-use Rattle.load_column.specs.Load.{Source, Fed}
+use Rattle.layout.specs.Layout.{tables, stopOf, RowsLaid}
+use Rattle.load_column.specs.Load.{Source, Fed, LoadedColumn}
 use Rattle.load_column.specs.Blocks.{Kept, storedBlock, blockAt}
 use Rattle.load_column.proofs.BodyLaws.{added, added-length}
 use Rattle.load_column.proofs.SourceLaws.{kept, ordered-all, old-below, area-is}
+use Rattle.load_column.proofs.ColumnLaws.{UpTo, on-inside, up-placed, up-blocks}
 use Rattle.load_column.proofs.StoredLaws.{column-rises, stored-here, found-is, missing-is}
 
 -- ---- the inverse
@@ -214,3 +217,16 @@ module _ {dims starts rows : List ℕ} {values : List Float} {bodies order sizes
         listed-is ∙ ap (λ (l : List ℕ). m l starts rows values order) (sym (f .by-dims)) ∙ ap (λ (l : List ℕ). m (a .dims) l rows values order) (sym (f .by-starts))
         ∙ ap (λ (l : List ℕ). m (a .dims) (a .starts) l values order) (sym (f .by-rows)) ∙ ap (λ (l : List Float). m (a .dims) (a .starts) (a .rows) l order) (sym (f .by-values))
         ∙ ap (λ (l : List ℕ). m (a .dims) (a .starts) (a .rows) (a .values) l) (sym (f .by-order))
+
+-- ---- the column
+
+module _ {dims starts rows : List ℕ} {values : List Float} {bodies order sizes lStarts lRows lOffsets : List ℕ} {v m j u : ℕ} {places : List ℕ} {c : List Float} where
+  pub column-loaded : Source dims starts rows values bodies order sizes → RowsLaid (tables sizes lStarts lRows lOffsets) (length dims) v m → j < length dims
+      → stopOf (tables sizes lStarts lRows lOffsets) j ≤ u → UpTo (tables sizes lStarts lRows lOffsets) j (λ i. blockAt dims starts rows values order i j) places c u
+      → (a : System) → Fed a dims starts rows values order → LoadedColumn (tables sizes lStarts lRows lOffsets) a j places c
+  column-loaded s laid h all up a f =
+      let t = tables sizes lStarts lRows lOffsets in
+      record {
+        placed = up-placed t j laid h all up;
+        blocks = λ i e. let o = on-inside t j laid h i e in up-blocks t j laid h all up i e ∙ block-is s i j (o .1) h (o .0) a f;
+      }
