@@ -29,15 +29,7 @@ use Rattle.layout.specs.Layout.{Tables, side, onAt}
 use Rattle.load_column.specs.Load.{LoadedColumn}
 use Rattle.finish_column.specs.Finish.{HoldsAll, Before, Ended, Finishes}
 use Rattle.work_column.specs.Work.{Ahead, Works}
-use Rattle.factor_column.specs.declared.core.Turned.{Turned}
-use Rattle.factor_column.specs.declared.core.Turned.the-variants as turned
-use Rattle.factor_column.specs.Turn.{Given, Served, UpTo, After, Turns}
-
--- how the end of a column, with the count so far, is told
-abbrev pub turnedOf : ℕ → Settled → Turned
-turnedOf count (Accepted r) = turned.Stored count
-turnedOf count (NotFinite place pivot) = turned.NotFinite place pivot
-turnedOf count (Poor condition) = turned.Poor condition
+use Rattle.factor_column.specs.Turn.{turnedOf, Given, Served, UpTo, After, Turns}
 
 module _ (t : Tables) (unitStarts dStarts : List ℕ) where
   -- no column is done, and none is held

@@ -8,6 +8,8 @@ use Rattle.refusal.specs.Refusal.{Told, pivotNotFinite, poorlyConditioned}
 use Rattle.graph.specs.Symbolic as L
 use Rattle.graph.specs.Count.{columnTriples}
 use Rattle.elimination_tree.specs.Tree.{linkedUp}
+use Rattle.block_diag_ldlt.specs.declared.core.Settled.{Settled}
+use Rattle.block_diag_ldlt.specs.declared.core.Settled.the-variants as settled
 use Rattle.machine.specs.System.{System, blocks, links}
 use Rattle.machine.specs.Machine.{State, going, stopped, runTo}
 use Rattle.layout.specs.Layout.{Tables, rowsAt}
@@ -15,6 +17,12 @@ use Rattle.load_column.specs.Load.{Fed}
 use Rattle.finish_column.specs.Finish.{HoldsAll}
 use Rattle.factor_column.specs.declared.core.Turned.{Turned}
 use Rattle.factor_column.specs.declared.core.Turned.the-variants.{Stored, NotFinite, Poor}
+
+-- how the end of a column, with the count so far, is told
+abbrev pub turnedOf : ℕ → Settled → Turned
+turnedOf count (settled.Accepted r) = Stored count
+turnedOf count (settled.NotFinite place pivot) = NotFinite place pivot
+turnedOf count (settled.Poor condition) = Poor condition
 
 -- the count so far: at most 4,096² for each column
 abbrev pub Counted : ℕ → Turned → Type 0

@@ -10,7 +10,7 @@ ghost use Rattle.symbolic.specs.Columns.{Below};
 ghost use Rattle.layout.specs.Layout.{tables, RowsLaid, DiagonalLaid};
 ghost use Rattle.load_column.specs.Load.{Source};
 ghost use Rattle.work_column.specs.Work.{Next, Grown};
-ghost use Rattle.factor_column.specs.Turn.{given, Turns, Counted};
+ghost use Rattle.factor_column.specs.Turn.{given, Turns, Counted, turnedOf};
 
 // How a column ends.
 pub enum Turned {
@@ -118,8 +118,15 @@ pub fn factor_column(
         diag,
         d,
     );
+    turned_by(n, r)
+}
+
+// How the end of a column, with the count so far, is told.
+fn turned_by(count: u64, r: Settled) -> Turned
+    ensures { λ t. ⌜ t ≡ turnedOf count r ⌝ }
+{
     match r {
-        Settled::Accepted(_) => Turned::Stored { count: n },
+        Settled::Accepted(_) => Turned::Stored { count },
         Settled::NotFinite { place, pivot } => Turned::NotFinite { place, pivot },
         Settled::Poor { condition } => Turned::Poor { condition },
     }
