@@ -54,7 +54,7 @@ module _ (t : Tables) (j : ℕ) where
         let s = laid .column j h in
         let r = laid .row j u h lo hi in
         let rises : at (t .lOffsets) (startOf t j) ≤ at (t .lOffsets) u = ⊎-elim (λ e. subst (λ (v : ℕ). at (t .lOffsets) (startOf t j) ≤ at (t .lOffsets) v) e (omega arith))
-            (λ l. let b = laid .body j (startOf t j) u h (omega arith) (omega arith) l (omega arith) in omega arith) (eq-or-lt-of-le lo) in
+        (λ l. let b = laid .body j (startOf t j) u h (omega arith) (omega arith) l (omega arith) in omega arith) (eq-or-lt-of-le lo) in
         record {
           known = (omega arith, omega (arith, laid .count), r .0, r .1);
           rises = rises;

@@ -8,7 +8,7 @@ use Prim.Native.Nat.{ℕ, _+_, _-_, _*_, _<_, _≤_, min, max}
 use mathlib.Core.Bool.{Bool, true, false, cond, not, _&&_}
 use mathlib.Core.List.{List, map}
 use mathlib.Core.Logic.{⊎-elim}
-use mathlib.Core.Option.{Option, none, some}
+use mathlib.Core.Option.{none, some}
 use mathlib.Core.Path.{_≡_, refl, sym, ap, subst, _∙_}
 use native.Mathlib.Nat.{mul-comm}
 use native.Mathlib.Omega.{arith}
@@ -38,7 +38,7 @@ use Rattle.layout.specs.Layout.{tables, stopOf, RowsLaid}
 use Rattle.load_column.specs.Load.{Source, Fed, LoadedColumn}
 use Rattle.load_column.specs.Blocks.{Kept, storedBlock, blockAt}
 use Rattle.load_column.proofs.BodyLaws.{added, added-length}
-use Rattle.load_column.proofs.SourceLaws.{kept, ordered-all, old-below, area-is}
+use Rattle.load_column.proofs.SourceLaws.{kept, old-below, area-is}
 use Rattle.load_column.proofs.ColumnLaws.{UpTo, on-inside, up-placed, up-blocks}
 use Rattle.load_column.proofs.StoredLaws.{column-rises, stored-here, found-is, missing-is}
 

@@ -13,7 +13,7 @@ use Rattle.load_column.specs.Blocks.{Kept}
 
 module _ {dims starts rows : List ℕ} {values : List Float} {bodies order sizes : List ℕ} (s : Source dims starts rows values bodies order sizes) where
   pub kept : Kept dims starts rows values bodies
-  kept = record { few = s .few; stored = s .stored; columns = s .columns; counted = s .counted; by-bodies = s .by-bodies }
+  kept = record { columns = s .columns; counted = s .counted; by-bodies = s .by-bodies }
 
   pub ordered-all : length order ≡ length dims
   ordered-all = s .permutes .entries

@@ -1,8 +1,8 @@
 -- A's block (row, column): where the search has found it, what stands there; and what is loaded of it. Assumes nothing.
 use Prim.Native.Nat.{ℕ, _+_, _-_, _*_, _<_, _≤_, min, max}
-use mathlib.Core.Bool.{Bool, true, false, cond, not}
+use mathlib.Core.Bool.{Bool, true, false, not}
 use mathlib.Core.List.{List, []}
-use mathlib.Core.Path.{_≡_, refl, sym, ap, subst, _∙_}
+use mathlib.Core.Path.{_≡_, sym, ap, subst, _∙_}
 use native.Mathlib.Omega.{arith}
 use borrow.Author.Tests.{not-false, lt-ltb, le-ltb}
 use lib.Dec.{ltb, eqb, eqb→eq}
@@ -13,8 +13,8 @@ use Rattle.scalar.specs.Block.{zeros}
 use Rattle.tables.specs.Verdict.{at, columnOf}
 use Rattle.tables.proofs.SearchLaws.{first-ge, first-fails}
 use Rattle.tables.proofs.ColumnLaws.{column-is}
-use Rattle.scalars.specs.Bodies.{placeOf, offsetAt, bodyAt, landed}
-use Rattle.scalars.proofs.BodyLaws.{offset-next, body-inside, length-offsets, offsets-at, body-between, body-length, body-area}
+use Rattle.scalars.specs.Bodies.{placeOf, bodyAt, landed}
+use Rattle.scalars.proofs.BodyLaws.{offset-next, body-inside, length-offsets, offsets-at, body-between, body-area}
 use Rattle.scalars.proofs.PlaceLaws.{Stored}
 use Rattle.block_product.specs.Working.{slot}
 use Rattle.load_column.specs.Blocks.{ColumnRises, Kept, storedBlock, blockAt}

@@ -22,8 +22,6 @@ pub record ColumnRises (starts rows : List ℕ) (column : ℕ) : Type 0 where
 
 -- A's tables and values, good, and where each body begins
 pub record Kept (dims starts rows : List ℕ) (values : List Float) (bodies : List ℕ) : Type 0 where
-  pub few : length dims ≤ 4096
-  pub stored : length rows ≤ 65536
   pub columns : Columns fromDiagonal (length dims) starts rows
   pub counted : length values ≡ areas dims starts rows
   pub by-bodies : bodies ≡ offsets dims starts rows

@@ -16,6 +16,9 @@ ghost use Rattle.load_column.specs.Load.{Source, Fed, LoadedColumn};
 ghost use Rattle.load_column.specs.Blocks.{ColumnRises, Kept, storedBlock, blockAt};
 
 // Column j: its diagonal block first, then its rows as they lie in L's values. places[i] becomes where block (i, j) begins in c.
+//     dims, starts, rows, values   A, by old number; bodies: where each of its bodies begins in `values`
+//     order, sizes                 the old number and the dimension of each new block
+//     l_starts, l_rows, l_offsets  the columns of L, by new number, and where each of its bodies begins in L's values
 pub fn load_column(
     dims: &[u32],
     starts: &[u32],
@@ -41,11 +44,37 @@ pub fn load_column(
     let from = l_starts[j] as usize;
     let end = l_starts[j + 1] as usize;
     let base = l_offsets[from] as usize;
-    load_at(dims, starts, rows, values, bodies, order, sizes, j, j, 0, places, c);
+    load_at(
+        dims,
+        starts,
+        rows,
+        values,
+        bodies,
+        order,
+        sizes,
+        j,
+        j,
+        0,
+        places,
+        c,
+    );
     for u in from..end {
         let place = own + (l_offsets[u] as usize - base);
         let i = l_rows[u] as usize;
-        load_at(dims, starts, rows, values, bodies, order, sizes, i, j, place, places, c);
+        load_at(
+            dims,
+            starts,
+            rows,
+            values,
+            bodies,
+            order,
+            sizes,
+            i,
+            j,
+            place,
+            places,
+            c,
+        );
     }
 }
 
@@ -72,7 +101,17 @@ fn load_at(
 {
     places[i] = place as u32;
     let end = place + sizes[i] as usize * sizes[j] as usize;
-    load_block(dims, starts, rows, values, bodies, order, i, j, &mut c[place..end]);
+    load_block(
+        dims,
+        starts,
+        rows,
+        values,
+        bodies,
+        order,
+        i,
+        j,
+        &mut c[place..end],
+    );
 }
 
 // Block (i, j): of its two old numbers the greater is A's row, the lesser A's column.
@@ -122,7 +161,13 @@ fn load_stored(
     if p < end {
         let b = bodies[p] as usize;
         let e = bodies[p + 1] as usize;
-        load_body(dims[row] as usize, dims[column] as usize, above, &values[b..e], y);
+        load_body(
+            dims[row] as usize,
+            dims[column] as usize,
+            above,
+            &values[b..e],
+            y,
+        );
     } else {
         clear(y);
     }

@@ -2,8 +2,6 @@
 use Prim.Native.Nat.{_+_, _-_, _/_}
 use mathlib.Core.Path.{_≡_, refl}
 use native.Mathlib.Omega.{arith}
-use borrow.Author.Needs.{needs}
-use denote.Ref.{now}
 use Rattle.tables.specs.Verdict.{at}
 use Rattle.load_column.proofs.FindLaws.{Halved, halved-none, halved-up, halved-down, found, none-left, other-row}
 use Rattle.load_column.proofs.core.find_row.Statement.{statement}

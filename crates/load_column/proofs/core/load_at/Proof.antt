@@ -1,6 +1,6 @@
 -- `load_column::core::load_at` meets its contract: the part of c that is lent is the block. Assumes nothing.
 use Prim.Native.Nat.{_+_, _*_, _<_}
-use mathlib.Core.Path.{_≡_, refl, _∙_}
+use mathlib.Core.Path.{refl, _∙_}
 use native.Mathlib.Nat.{add-sub-cancel-left}
 use native.Mathlib.Omega.{arith}
 use lib.ListN.{length}
@@ -18,10 +18,13 @@ load-block-requires c κs =
     let x = s .args in
     let i : x .i < length (now (x .dims)) = s .pre .1 .0 .0 in
     let j : x .j < length (now (x .dims)) = s .pre .1 .0 .1 in
-    let area = at (now (x .sizes)) (x .i) * at (now (x .sizes)) (x .j) in
-    (kept (s .pre .0),
-      ((omega (arith, ordered-all (s .pre .0)), omega (arith, ordered-all (s .pre .0)), old-below (s .pre .0) (x .i) i, old-below (s .pre .0) (x .j) j),
-      mid-len (x .place) (x .place + area) (now (x .c)) (s .pre .1 .1 .0) ∙ add-sub-cancel-left (x .place) area ∙ area-is (s .pre .0) (x .i) (x .j) i j))
+    let area = at (now (x .sizes)) (x .i) * at (now (x .sizes)) (x .j) in (
+      kept (s .pre .0),
+      (
+        (omega (arith, ordered-all (s .pre .0)), omega (arith, ordered-all (s .pre .0)), old-below (s .pre .0) (x .i) i, old-below (s .pre .0) (x .j) j),
+        mid-len (x .place) (x .place + area) (now (x .c)) (s .pre .1 .1 .0) ∙ add-sub-cancel-left (x .place) area ∙ area-is (s .pre .0) (x .i) (x .j) i j,
+      ),
+    )
 
 returns : tie.Need-returns
 returns c = (refl, rw (c .before .before .load-block .ensures, add-sub-cancel-left))

@@ -1,5 +1,5 @@
 -- `load_column::core::load_block` meets its contract: by which of the two old numbers is the greater. Assumes nothing.
-use mathlib.Core.Path.{_≡_, _∙_}
+use mathlib.Core.Path.{_∙_}
 use native.Mathlib.Nat.{mul-comm}
 use native.Mathlib.Omega.{arith}
 use borrow.Author.Needs.{needs}

@@ -1,12 +1,11 @@
 -- `load_column::core::load_column` meets its contract: the invariant: the rows before place u are loaded (`UpTo`). Assumes nothing.
 use Prim.Native.Nat.{ℕ, _+_, _-_, _*_, _≤_, _<_}
 use mathlib.Core.List.{List}
-use mathlib.Core.Path.{_≡_, refl, sym, _∙_}
+use mathlib.Core.Path.{_≡_, refl, _∙_}
 use native.Mathlib.Omega.{arith}
 use lib.Ieee.{Float}
 use lib.ListN.{length}
 use denote.Ref.{now}
-use borrow.Author.Needs.{needs}
 use Rattle.tables.specs.Verdict.{at}
 use Rattle.layout.specs.Layout.{Tables, tables, side, startOf, stopOf}
 use Rattle.load_column.specs.Blocks.{blockAt}
@@ -56,9 +55,13 @@ load-at-requires c κs =
 loop-holds : tie.Need-loop-holds Inv-loop μ-loop
 loop-holds c =
     let s = c .before .before .before .before .before .before .before .before .before .before .before .before .before .before .before .before .before .before .before .before .before .before .before in
-    let j = s .args .j in
-    (refl, refl, omega arith, omega (arith, column s),
-      up-none (tablesOf s) j (s .pre .1 .0) (s .pre .1 .1 .0) (blockOf s) (λ i h. block-length (s .pre .0) i j h (s .pre .1 .1 .0)) (now (s .args .places)) (now (s .args .c)) (s .pre .1 .1 .1) refl _ _ (c .before .before .before .before .load-at .ensures))
+    let j = s .args .j in (
+      refl,
+      refl,
+      omega arith,
+      omega (arith, column s),
+      up-none (tablesOf s) j (s .pre .1 .0) (s .pre .1 .1 .0) (blockOf s) (λ i h. block-length (s .pre .0) i j h (s .pre .1 .1 .0)) (now (s .args .places)) (now (s .args .c)) (s .pre .1 .1 .1) refl _ _ (c .before .before .before .before .load-at .ensures),
+    )
 
 load-at-requires-2 : tie.Need-load-at-requires-2 Inv-loop μ-loop
 load-at-requires-2 c κs =
@@ -75,10 +78,14 @@ loop-again c =
     let j = s .args .j in
     let l = c .before .before .before .before .before .before .before .before .before .before .loop in
     let b = c .before .before .before .before .before .before .before .before .before .before .before .before .before .before .before .load-at in
-    let d = c .before .before .before .before .load-at2 in
-    (d .kept .1 .1 .1 .1 .1 .1 .1 .1 .1 .1 .0 ∙ l .inv .0, d .kept .1 .1 .1 .1 .1 .1 .1 .1 .1 .1 .1 .0 ∙ l .inv .1, omega (arith, l .inv .2), omega (arith, c .before .before .before .before .before .before .before .before .before .loop-test .taken),
+    let d = c .before .before .before .before .load-at2 in (
+      d .kept .1 .1 .1 .1 .1 .1 .1 .1 .1 .1 .0 ∙ l .inv .0,
+      d .kept .1 .1 .1 .1 .1 .1 .1 .1 .1 .1 .1 .0 ∙ l .inv .1,
+      omega (arith, l .inv .2),
+      omega (arith, c .before .before .before .before .before .before .before .before .before .loop-test .taken),
       up-more (tablesOf s) j (s .pre .1 .0) (s .pre .1 .1 .0) (blockOf s) (λ i h. block-length (s .pre .0) i j h (s .pre .1 .1 .0)) (l .places) (l .c) (l .inv .0 ∙ b .kept .1 .1 .1 .1 .1 .1 .1 .1 .1 .1 .0 ∙ s .pre .1 .1 .1) (l .inv .1 ∙ b .kept .1 .1 .1 .1 .1 .1 .1 .1 .1 .1 .1 .0)
-      (l .u) (l .inv .2) (c .before .before .before .before .before .before .before .before .before .loop-test .taken) (l .inv .4) _ _ (d .ensures))
+          (l .u) (l .inv .2) (c .before .before .before .before .before .before .before .before .before .loop-test .taken) (l .inv .4) _ _ (d .ensures),
+    )
 
 same-length : tie.Need-same-length Inv-loop μ-loop
 same-length c = c .before .loop .inv .0 ∙ c .before .before .before .before .before .before .load-at .kept .1 .1 .1 .1 .1 .1 .1 .1 .1 .1 .0
