@@ -2,16 +2,19 @@
 --     sizes-count, sizes-sound   the dimensions under a permutation of the blocks
 --     order-inside               every old number is a block
 --     l-measured                 what L's offsets are made from
+--     layable                    tables that pass and the columns of L can be laid out
 -- Assumes nothing.
 use Prim.Native.Nat.{ℕ, _≤_, _<_}
 use mathlib.Core.List.{List}
 use mathlib.Core.Path.{_≡_, sym, subst, _∙_}
 use native.Mathlib.Omega.{arith}
 use lib.ListN.{length, getD}
-use Rattle.graph.specs.Order.{Permutes}
+use Rattle.graph.specs.Order.{Permutes, moved}
+use Rattle.graph.proofs.OrderLaws.{moved-permutes}
 use Rattle.order.specs.Order.{sizesOf}
 use Rattle.order.proofs.Laws.{below-at, length-sizes}
-use Rattle.tables.specs.Sound.{Sizes, Ordered, Measured}
+use Rattle.tables.specs.Verdict.{pastDiagonal}
+use Rattle.tables.specs.Sound.{Columns, PlanSound, Sizes, Ordered, Measured}
 use Rattle.scalars.proofs.ScalarLaws.{sizes-at}
 use Rattle.analysis.proofs.Laws.{sized}
 use Rattle.factor_tables.specs.Given.{Layable}
@@ -40,4 +43,17 @@ l-measured dims starts rows order lStarts lRows g =
       ordered = subst (λ (m : ℕ). Ordered lStarts m (length lRows)) (sym e) (g .columns .ordered);
       below = λ p h. subst (λ (m : ℕ). getD lRows p 0 < m) (sym e) (g .columns .below p h);
       few = omega (arith, g .filled);
+    }
+
+-- tables that pass and the columns of L can be laid out
+pub layable : (dims starts rows perm late lStarts lRows : List ℕ) → PlanSound dims starts rows perm late → Columns pastDiagonal (length dims) lStarts lRows → length lRows < 16777216
+    → Layable dims starts rows (moved perm late) lStarts lRows
+layable dims starts rows perm late lStarts lRows p c few =
+    record {
+      blocks = p .blocks;
+      measured = record { sizes = p .sizes; ordered = p .columns .ordered; below = p .columns .below; few = omega (arith, p .stored) };
+      stored = omega (arith, p .stored);
+      permutes = moved-permutes perm late (length dims) (p .permutes);
+      columns = c;
+      filled = few;
     }

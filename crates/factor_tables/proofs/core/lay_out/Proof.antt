@@ -1,5 +1,4 @@
 -- `factor_tables::core::lay_out` meets its contract: the tables of the diagonal, said of the dimensions under the order. Assumes nothing.
-use Prim.Native.Nat.{ℕ, _+_}
 use mathlib.Core.Path.{_≡_, sym, ap, subst, _∙_}
 use native.Mathlib.Omega.{arith}
 use borrow.Author.Needs.{needs}
@@ -20,6 +19,7 @@ lay-diagonal-requires : tie.Need-lay-diagonal-requires
 lay-diagonal-requires c κs =
     let start = c .before .before .before .before .before .before .before .before .before .before .before .before .before .before .before .before .before .before .before .before .before .before .before .before .before .before .before .before .before .before in
     let g = start .pre .0 in
+    let room = start .pre .1 .1 .1 in
     let call = c .before .before .before .before .before .before .before .before .before .before .before .before .lay-rows in
     let long : length (call .last .1 .1 .1 .1 .1 .1 .0) ≡ length (start .args .dims .now) = call .kept .1 .1 .1 .1 .1 .1 .0 ∙ start .pre .1 .0 .0 in (
       (
@@ -27,7 +27,7 @@ lay-diagonal-requires c κs =
         omega (arith, long, g .blocks),
         start .pre .1 .0 .2 ∙ sym long,
       ),
-      (start .pre .1 .1 .1 .0 ∙ ap (λ (m : ℕ). m + 1) (sym long), start .pre .1 .1 .1 .1 ∙ ap (λ (m : ℕ). m + 1) (sym long)),
+      (omega (arith, long, room .0, room .1), omega (arith, long, room .0, room .1)),
     )
 
 returns : tie.Need-returns
