@@ -2,17 +2,22 @@
 -- leave is the machine's column j, or its refusal.
 --     nothing-yet    before the first column
 --     turns          one column more
+--     laid-again, laid-alone, diagonal-again, placed-by    what the steps need, with lengths as they are later
 -- Assumes nothing.
 use Prim.Native.Nat.{ℕ, zero, suc, _+_, _<_}
-use mathlib.Core.List.{List, [], _∷_, _++_}
+use mathlib.Core.Bool.{true, false}
+use mathlib.Core.List.{List, [], _∷_, _++_, append-nil}
 use mathlib.Core.Option.{none}
 use mathlib.Core.Path.{_≡_, refl, sym, ap, ap₂, subst, _∙_}
 use native.Mathlib.Omega.{arith}
-use lib.Ieee.{Float}
+use lib.Ieee.{Float, nan}
 use lib.ListN.{length, length-map}
 use Rattle.scalar.specs.Loop.{steps}
+use Rattle.graph.specs.Sets.{filter}
+use Rattle.graph.specs.Order.{moved}
 use Rattle.graph.specs.Symbolic as L
 use Rattle.graph.specs.Count.{columnTriples}
+use Rattle.graph.proofs.SumLaws.{filter-all}
 use Rattle.graph.proofs.SymbolicLaws.{columns-length, columns-at}
 use Rattle.tables.specs.Verdict.{at}
 use Rattle.elimination_tree.specs.Tree.{linkedUp}
@@ -25,11 +30,54 @@ use Rattle.machine.proofs.StepLaws.{products-finished}
 use Rattle.machine.proofs.RunLaws.{Right, columns-keep, sequence-is, touched-is}
 use Rattle.machine.proofs.StopLaws.{run-next}
 use Rattle.block_product.specs.Working.{Shows}
-use Rattle.layout.specs.Layout.{Tables, side, onAt}
-use Rattle.load_column.specs.Load.{LoadedColumn}
+use Rattle.layout.specs.Layout.{Tables, side, onAt, RowsLaid, DiagonalLaid, Placed}
+use Rattle.load_column.specs.Load.{Fed, LoadedColumn}
 use Rattle.finish_column.specs.Finish.{HoldsAll, Before, Ended, Finishes}
 use Rattle.work_column.specs.Work.{Ahead, Works}
 use Rattle.factor_column.specs.Turn.{turnedOf, Given, Served, UpTo, After, Turns}
+
+-- ---- what the steps need
+
+-- with no late block the order is the permutation
+moved-none : (perm : List ℕ) → moved perm [] ≡ perm
+unfolding moved
+moved-none perm = ap₂ {C = List ℕ} _++_ (filter-all (λ block. true) perm (λ x m. tt)) (none-left perm) ∙ append-nil perm
+  where
+    none-left : (l : List ℕ) → filter (λ block. false) l ≡ []
+    none-left [] = refl
+    none-left (x ∷ l) = none-left l
+
+module _ (t : Tables) where
+  pub laid-again : {n n′ v v′ c c′ : ℕ} → n ≡ n′ → v ≡ v′ → c ≡ c′ → RowsLaid t n v c → RowsLaid t n′ v′ c′
+  laid-again en ev ec laid = rw (← en, ← ev, ← ec) laid
+
+  -- loading asks nothing of L's values
+  pub laid-alone : {n v c : ℕ} → RowsLaid t n v c → RowsLaid t n (at (t .lOffsets) (length (t .lRows))) c
+  laid-alone laid =
+      record {
+        count = laid .count;
+        size = laid .size;
+        column = laid .column;
+        after = laid .after;
+        row = laid .row;
+        ascends = laid .ascends;
+        body = laid .body;
+        bodies = omega arith;
+        packed = laid .packed;
+      }
+
+  -- the places of a loaded column, whatever the system
+  pub placed-by : (dims starts rows : List ℕ) (values : List Float) (moved : List ℕ) (j : ℕ) (places : List ℕ) (c : List Float)
+      → ((a : System) → Fed a dims starts rows values moved → LoadedColumn t a j places c) → Placed t places j
+  placed-by dims starts rows values moved j places c loads =
+      loads (record { dims = dims; starts = starts; rows = rows; values = values; perm = moved; late = []; tol = nan })
+      (record { by-dims = refl; by-starts = refl; by-rows = refl; by-values = refl; by-order = moved-none moved }) .placed
+
+pub diagonal-again : (sizes unitStarts dStarts : List ℕ) {n n′ diag diag′ d d′ : ℕ} → n ≡ n′ → diag ≡ diag′ → d ≡ d′
+    → DiagonalLaid sizes unitStarts dStarts n diag d → DiagonalLaid sizes unitStarts dStarts n′ diag′ d′
+diagonal-again sizes unitStarts dStarts en eu ed laid = rw (← en, ← eu, ← ed) laid
+
+-- ---- one column
 
 module _ (t : Tables) (unitStarts dStarts : List ℕ) where
   -- no column is done, and none is held
