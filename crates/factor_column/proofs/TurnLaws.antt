@@ -4,7 +4,7 @@
 --     turns          one column more
 --     laid-again, laid-alone, diagonal-again, placed-by    what the steps need, with lengths as they are later
 -- Assumes nothing.
-use Prim.Native.Nat.{ℕ, zero, suc, _+_, _<_}
+use Prim.Native.Nat.{ℕ, _+_, _*_, _≤_, _<_}
 use mathlib.Core.Bool.{true, false}
 use mathlib.Core.List.{List, [], _∷_, _++_, append-nil}
 use mathlib.Core.Option.{none}
@@ -25,7 +25,7 @@ use Rattle.order.specs.Order.{sizesOf}
 use Rattle.block_diag_ldlt.specs.declared.core.Settled.{Settled}
 use Rattle.block_diag_ldlt.specs.declared.core.Settled.the-variants.{Accepted, NotFinite, Poor}
 use Rattle.machine.specs.System.{System, blocks, links, order, dim}
-use Rattle.machine.specs.Machine.{State, Column, load, sequence, worked, madeOf, going, stored, start, runTo}
+use Rattle.machine.specs.Machine.{State, Column, load, sequence, worked, stored, start, runTo}
 use Rattle.machine.proofs.StepLaws.{products-finished}
 use Rattle.machine.proofs.RunLaws.{Right, columns-keep, sequence-is, touched-is}
 use Rattle.machine.proofs.StopLaws.{run-next}
@@ -34,7 +34,7 @@ use Rattle.layout.specs.Layout.{Tables, side, onAt, RowsLaid, DiagonalLaid, Pla
 use Rattle.load_column.specs.Load.{Fed, LoadedColumn}
 use Rattle.finish_column.specs.Finish.{HoldsAll, Before, Ended, Finishes}
 use Rattle.work_column.specs.Work.{Ahead, Works}
-use Rattle.factor_column.specs.Turn.{turnedOf, Given, Served, UpTo, After, Turns}
+use Rattle.factor_column.specs.Turn.{turnedOf, Counted, Given, Served, UpTo, After, Turns}
 
 -- ---- what the steps need
 
@@ -76,6 +76,12 @@ module _ (t : Tables) where
 pub diagonal-again : (sizes unitStarts dStarts : List ℕ) {n n′ diag diag′ d d′ : ℕ} → n ≡ n′ → diag ≡ diag′ → d ≡ d′
     → DiagonalLaid sizes unitStarts dStarts n diag d → DiagonalLaid sizes unitStarts dStarts n′ diag′ d′
 diagonal-again sizes unitStarts dStarts en eu ed laid = rw (← en, ← eu, ← ed) laid
+
+-- the count has its bound, however the column ends
+pub counts-so : (j count : ℕ) (r : Settled) → count ≤ 16777216 * (j + 1) → Counted j (turnedOf count r)
+counts-so j count (Accepted r) h = h
+counts-so j count (NotFinite place pivot) h = tt
+counts-so j count (Poor condition) h = tt
 
 -- ---- one column
 

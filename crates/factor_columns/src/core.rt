@@ -14,11 +14,20 @@ ghost use Rattle.factor_columns.specs.Columns.{Runs};
 // How the columns end.
 pub enum Worked {
     // The products of all columns.
-    Done { count: u64 },
+    Done {
+        count: u64,
+    },
     // 13
-    NotFinite { block: usize, place: usize, pivot: f64 },
+    NotFinite {
+        block: usize,
+        place: usize,
+        pivot: f64,
+    },
     // 14
-    Poor { block: usize, condition: f64 },
+    Poor {
+        block: usize,
+        condition: f64,
+    },
 }
 
 // All columns of the factor of A, ascending, up to the first that is refused. What is lent is as `factor_column` says; `next` begins
