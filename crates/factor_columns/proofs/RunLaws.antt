@@ -7,7 +7,6 @@ use mathlib.Core.List.{List}
 use mathlib.Core.Path.{_≡_, ap, subst, sym, _∙_}
 use native.Mathlib.Omega.{arith}
 use lib.Ieee.{Float}
-use lib.ListN.{length}
 use Rattle.refusal.specs.Refusal.{Told}
 use Rattle.machine.specs.System.{System, blocks}
 use Rattle.machine.specs.Machine.{stopped, runTo, run}
