@@ -86,7 +86,7 @@ module _ (a : System) where
 
   -- ---- how long each list is
 
-  pub record TableRoom (moved parents starts′ rows′ offsets′ inverse sizes′ count stamps bodies unitStarts dStarts places : List ℕ) : Type 0 where
+  pub record TableRoom (moved parents starts′ rows′ offsets′ inverse sizes′ stamps bodies unitStarts dStarts places : List ℕ) : Type 0 where
     pub of-order : length moved ≡ blocks a
     pub of-parents : length parents ≡ blocks a
     pub of-starts : length starts′ ≡ blocks a + 1
@@ -94,7 +94,6 @@ module _ (a : System) where
     pub of-offsets : length offsets′ ≡ stored + 1
     pub of-inverse : length inverse ≡ blocks a
     pub of-sizes : length sizes′ ≡ blocks a
-    pub of-count : length count ≡ blocks a
     pub of-stamps : length stamps ≡ blocks a
     pub of-bodies : length bodies ≡ length (a .rows) + 1
     pub of-units : length unitStarts ≡ blocks a + 1

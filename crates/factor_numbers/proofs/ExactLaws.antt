@@ -45,8 +45,8 @@ use Rattle.factor_column.specs.Turn.{Given, given, Served, UpTo}
 use Rattle.factor_columns.specs.Columns.{told, Ends, Runs}
 use Rattle.factor_columns.specs.declared.core.Worked.{Worked}
 use Rattle.factor_columns.specs.declared.core.Worked.the-variants.{Done, NotFinite, Poor}
-use Rattle.factor_exact.specs.Exact.{sizes, numbers, lStarts, lRows, lOffsets, valuesAfter, unitsAfter, pivotsAfter, Tabled, NumberRoom}
-use Rattle.factor_exact.proofs.LinkLaws.{same-rows, same-triples}
+use Rattle.factor_setup.specs.Exact.{sizes, numbers, lStarts, lRows, lOffsets, valuesAfter, unitsAfter, pivotsAfter, Tabled, NumberRoom}
+use Rattle.factor_numbers.proofs.LinkLaws.{same-rows, same-triples}
 
 module _ (a : System) (sound : SystemSound (a .dims) (a .starts) (a .rows) (a .values) (a .perm) (a .late) (a .tol)) where
   abbrev n : ℕ
