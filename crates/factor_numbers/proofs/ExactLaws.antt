@@ -4,29 +4,28 @@
 --     ends                                               what it leaves
 -- Assumes nothing.
 use Prim.Native.Nat.{ℕ, zero, suc, _+_, _-_, _*_, _≤_, _<_}
-use mathlib.Core.Bool.{Bool, true, false}
+use mathlib.Core.Bool.{Bool}
 use mathlib.Core.List.{List, [], _∷_, _++_}
-use mathlib.Core.Path.{_≡_, refl, sym, ap, ap₂, subst, _∙_}
+use mathlib.Core.Path.{_≡_, refl, sym, ap, subst, _∙_}
 use native.Mathlib.Omega.{arith}
-use lib.Dec.{T, ltb, ltb→lt}
+use lib.Dec.{ltb, ltb→lt}
 use lib.Ieee.{Float}
-use lib.ListN.{length, getD, take, drop, replicate, length-take}
+use lib.ListN.{length, getD, take, replicate}
 use lib.Seq.{drop-cons, getD-take, length-take-le}
 use Rattle.scalar.specs.Block.{nans}
-use Rattle.graph.specs.Sets.{elem, keep, filter, from, gather}
+use Rattle.graph.specs.Sets.{keep, filter, from, gather}
 use Rattle.graph.specs.Symbolic as L
 use Rattle.graph.specs.Order.{Permutes}
 use Rattle.graph.proofs.SetLaws.{false-of, from-elim}
 use Rattle.graph.proofs.OrderLaws.{moved-permutes}
 use Rattle.refusal.specs.Refusal.{Told}
 use Rattle.tables.specs.Verdict.{at, areas, pastDiagonal}
-use Rattle.tables.specs.Sound.{Sizes, Columns, PlanSound, SystemSound}
+use Rattle.tables.specs.Sound.{Columns, SystemSound}
 use Rattle.elimination_tree.specs.Tree.{linkedUp, parentsOf}
 use Rattle.elimination_tree.proofs.Links.{parents-length}
 use Rattle.pattern.specs.Moved.{UpperOf}
 use Rattle.order.specs.Order.{sizesOf}
 use Rattle.symbolic.specs.Columns.{Tree, Below}
-use Rattle.analysis.specs.Plan.{startsOf, rowsOf}
 use Rattle.analysis.proofs.Same.{tree-of}
 use Rattle.scalars.specs.Scalars.{scalarStarts, scalarCount}
 use Rattle.machine.specs.System.{System, blocks, links, order}
@@ -37,18 +36,17 @@ use Rattle.block_product.specs.Working.{slot}
 use Rattle.layout.specs.Layout.{Tables, tables, tablesOf, side, startOf, stopOf, rowsAt, RowsLaid, DiagonalLaid, unitStartsOf, unitsNeed, workNeed}
 use Rattle.layout.proofs.RowLaws.{rows-laid}
 use Rattle.layout.proofs.DiagonalLaws.{diagonal-laid}
-use Rattle.layout.proofs.PlanLaws.{plan-columns, plan-rows, plan-numbers, plan-few, plan-stored}
+use Rattle.layout.proofs.PlanLaws.{plan-columns, plan-rows, plan-numbers}
 use Rattle.layout.proofs.FlatLaws.{values-join, units-join, pivots-join}
-use Rattle.factor_tables.proofs.NeedLaws.{same-scalars, same-units, same-work, few-work}
+use Rattle.factor_tables.proofs.NeedLaws.{same-scalars, same-units, same-work}
 use Rattle.factor_tables.proofs.TableLaws.{sizes-sound, sizes-count}
-use Rattle.load_column.specs.Load.{Source, Fed}
-use Rattle.finish_column.specs.Finish.{HoldsAll}
+use Rattle.load_column.specs.Load.{Source}
 use Rattle.work_column.specs.Work.{nextOf, Next, Grown}
 use Rattle.factor_column.specs.Turn.{Given, given, Served, UpTo}
 use Rattle.factor_columns.specs.Columns.{told, Ends, Runs}
 use Rattle.factor_columns.specs.declared.core.Worked.{Worked}
 use Rattle.factor_columns.specs.declared.core.Worked.the-variants.{Done, NotFinite, Poor}
-use Rattle.factor_setup.specs.Exact.{sizes, numbers, lStarts, lRows, lOffsets, valuesAfter, unitsAfter, pivotsAfter, Tabled, NumberRoom}
+use Rattle.factor_setup.specs.Exact.{sizes, numbers, lStarts, lRows, lOffsets, valuesAfter, unitsAfter, pivotsAfter, Tabled}
 use Rattle.factor_numbers.specs.Spoilt.{spoiltBy}
 use Rattle.factor_numbers.proofs.LinkLaws.{same-rows, same-triples}
 

@@ -5,7 +5,7 @@ use mathlib.Core.List.{List, [], _∷_, map}
 use mathlib.Core.Path.{_≡_, sym, ap, _∙_}
 use lib.Dec.{T, ltb}
 use lib.ListN.{getD}
-use Rattle.graph.specs.Sets.{filter, gather}
+use Rattle.graph.specs.Sets.{filter, between, gather}
 use Rattle.graph.specs.Symbolic as L
 use Rattle.graph.specs.Count.{triple, columnTriples}
 use Rattle.elimination_tree.specs.Tree.{Ascends, linkedUp}
@@ -19,7 +19,7 @@ module _ (n : ℕ) (linked : ℕ → ℕ → Bool) (starts rows : List ℕ) (few
   same-rows k = ap (λ (c : List (List ℕ)). getD c k []) (same-columns n linked starts rows few u symm)
 
   -- the links before j, both ways
-  same-before : (j : ℕ) → j < n → filter (λ i. linkedUp starts rows i j) _ ≡ filter (λ i. linked i j) _
+  same-before : (j : ℕ) → j < n → filter (λ i. linkedUp starts rows i j) (between 0 j) ≡ filter (λ i. linked i j) (between 0 j)
   unfolding Ascends
   same-before j h = sym (upper-links starts rows j (ascends-of n linked starts rows few u j h)) ∙ same-upper n linked starts rows few u j h
 
