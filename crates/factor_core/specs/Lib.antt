@@ -1,0 +1,2 @@
+-- The written definitions that the contracts cite.
+pub mod Factorize  -- what a factorization answers, and what it leaves in every lent place
