@@ -383,6 +383,20 @@ impl Maker {
         for (a, b) in [(LEAST, 0.0), (LEAST, 1.0), (1e-310, -0.0), (f64::MIN_POSITIVE, 1e-300)] {
             self.add(RANGE, Self::scalars(2, vec![a, b, 1.0], 0.0), EXACT);
         }
+        // such a pivot at each place of a block: times a stored 0.0 of the unit factor, the infinite number of L is NaN
+        for dim in 2..=4usize {
+            for tiny in 0..dim {
+                for height in [1, 2] {
+                    let dims = vec![dim as u32, height];
+                    let tables = Tables { dims, starts: vec![0, 2, 3], rows: vec![0, 1, 1], perm: vec![0, 1], late: vec![0; 2] };
+                    let bodies = bodies(&tables);
+                    let mut values = vec![1.0; bodies[3]];
+                    values[..dim * dim].fill(0.0);
+                    (0..dim).for_each(|r| values[r * (dim + 1)] = if r == tiny { LEAST } else { 2.0 });
+                    self.add(RANGE, Night { tables, values, tolerance: 0.0 }, OVER);
+                }
+            }
+        }
     }
 
     fn odd(&mut self) {
