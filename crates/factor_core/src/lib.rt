@@ -1,4 +1,4 @@
-// The outcome of a factorization, and its core: the plan, the needs that only the plan shows, the numbers, the scratch cleared.
+// The outcome of a factorization, and its core: the plan, the needs that only the plan shows, the outputs.
 pub mod core;
 
 use analysis::core::Counts;

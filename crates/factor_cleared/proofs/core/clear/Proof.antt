@@ -1,7 +1,7 @@
--- `factor_core::core::clear` meets its contract. Assumes nothing.
+-- `factor_cleared::core::clear` meets its contract. Assumes nothing.
 use borrow.Author.Needs.{needs}
-use Rattle.factor_core.proofs.core.clear.Statement.{statement}
-use Rattle.factor_core.proofs.core.clear.Tie as tie
+use Rattle.factor_cleared.proofs.core.clear.Statement.{statement}
+use Rattle.factor_cleared.proofs.core.clear.Tie as tie
 
 clear-requires : tie.Need-clear-requires
 clear-requires c κs = search needs

@@ -1,12 +1,12 @@
--- `factor_core::core::factored_core` meets its contract. Assumes nothing.
+-- `factor_cleared::core::factored_core` meets its contract. Assumes nothing.
 use mathlib.Core.Path.{_∙_}
 use borrow.Author.Needs.{needs}
 use Rattle.machine.specs.System.{System}
 use Rattle.factor_setup.specs.Exact.{system}
 use Rattle.factor_core.specs.Factorize.{Places, lent}
-use Rattle.factor_core.proofs.CoreLaws.{zero-of, noughts-of, factors}
-use Rattle.factor_core.proofs.core.factored_core.Statement.{statement}
-use Rattle.factor_core.proofs.core.factored_core.Tie as tie
+use Rattle.factor_cleared.proofs.CoreLaws.{zero-of, noughts-of, factors}
+use Rattle.factor_cleared.proofs.core.factored_core.Statement.{statement}
+use Rattle.factor_cleared.proofs.core.factored_core.Tie as tie
 
 fit-requires : tie.Need-fit-requires
 fit-requires c κs = search needs

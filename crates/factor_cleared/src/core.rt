@@ -1,0 +1,131 @@
+// The factorization where the night's tables have passed and each buffer but L's has exactly its need, its scratch cleared at the end.
+use factor_core::Factorized;
+use factor_core::core::fit;
+ghost use mathlib.Core.Path.{_≡_};
+ghost use lib.ListN.{length, replicate};
+ghost use Rattle.scalar.specs.Block.{zeros};
+ghost use Rattle.refusal.specs.Refusal.{done};
+ghost use Rattle.tables.specs.Sound.{SystemSound};
+ghost use Rattle.factor_setup.specs.Exact.{system};
+ghost use Rattle.factor_core.specs.Factorize.{lent, Factors, Exact};
+
+// The factorization, all scratch cleared at its end.
+pub fn factored_core(
+    dims: &[u32],
+    starts: &[u32],
+    rows: &[u32],
+    values: &[f64],
+    perm: &[u32],
+    late: &[u32],
+    tol: f64,
+    order: &mut [u32],
+    parents: &mut [u32],
+    l_starts: &mut [u32],
+    l_rows: &mut [u32],
+    l_offsets: &mut [u32],
+    l_values: &mut [f64],
+    diag: &mut [f64],
+    d: &mut [f64],
+    column: &mut [f64],
+    inverse: &mut [u32],
+    sizes: &mut [u32],
+    count: &mut [u32],
+    heads: &mut [u32],
+    into: &mut [u32],
+    stamps: &mut [u32],
+    table: &mut [u32],
+    upper: &mut [u32],
+    bodies: &mut [u32],
+    unit_starts: &mut [u32],
+    d_starts: &mut [u32],
+    places: &mut [u32],
+) -> Factorized
+    requires { ⌜ SystemSound (now dims) (now starts) (now rows) (now values) (now perm) (now late) tol ⌝ }
+    requires { ⌜ Exact (system (now dims) (now starts) (now rows) (now values) (now perm) (now late) tol) (lent (now order) (now parents) (now «l_starts») (now «l_rows») (now «l_offsets») (now «l_values») (now diag) (now d) (now column) (now inverse) (now sizes) (now count) (now heads) (now into) (now stamps) (now table) (now upper) (now bodies) (now «unit_starts») (now «d_starts») (now places)) ⌝ }
+    ensures { λ r. ⌜ Factors done (system (now (dims .entry)) (now (starts .entry)) (now (rows .entry)) (now (values .entry)) (now (perm .entry)) (now (late .entry)) tol) (lent (now (order .entry)) (now (parents .entry)) (now («l_starts» .entry)) (now («l_rows» .entry)) (now («l_offsets» .entry)) (now («l_values» .entry)) (now (diag .entry)) (now (d .entry)) (now (column .entry)) (now (inverse .entry)) (now (sizes .entry)) (now (count .entry)) (now (heads .entry)) (now (into .entry)) (now (stamps .entry)) (now (table .entry)) (now (upper .entry)) (now (bodies .entry)) (now («unit_starts» .entry)) (now («d_starts» .entry)) (now (places .entry))) r (lent (now (order .exit)) (now (parents .exit)) (now («l_starts» .exit)) (now («l_rows» .exit)) (now («l_offsets» .exit)) (now («l_values» .exit)) (now (diag .exit)) (now (d .exit)) (now (column .exit)) (now (inverse .exit)) (now (sizes .exit)) (now (count .exit)) (now (heads .exit)) (now (into .exit)) (now (stamps .exit)) (now (table .exit)) (now (upper .exit)) (now (bodies .exit)) (now («unit_starts» .exit)) (now («d_starts» .exit)) (now (places .exit))) ⌝ }
+{
+    let r = fit(
+        dims,
+        starts,
+        rows,
+        values,
+        perm,
+        late,
+        tol,
+        order,
+        parents,
+        l_starts,
+        l_rows,
+        l_offsets,
+        l_values,
+        diag,
+        d,
+        column,
+        inverse,
+        sizes,
+        count,
+        heads,
+        into,
+        stamps,
+        table,
+        upper,
+        bodies,
+        unit_starts,
+        d_starts,
+        places,
+    );
+    clear(
+        column,
+        inverse,
+        sizes,
+        count,
+        heads,
+        into,
+        stamps,
+        table,
+        upper,
+        bodies,
+        unit_starts,
+        d_starts,
+        places,
+    );
+    r
+}
+
+// Zeros in the working column and in all scratch.
+fn clear(
+    column: &mut [f64],
+    inverse: &mut [u32],
+    sizes: &mut [u32],
+    count: &mut [u32],
+    heads: &mut [u32],
+    into: &mut [u32],
+    stamps: &mut [u32],
+    table: &mut [u32],
+    upper: &mut [u32],
+    bodies: &mut [u32],
+    unit_starts: &mut [u32],
+    d_starts: &mut [u32],
+    places: &mut [u32],
+)
+    ensures { λ _. ⌜ now (column .exit) ≡ zeros (length (now (column .entry))) ⌝ }
+    ensures { λ _. ⌜ now (inverse .exit) ≡ replicate (length (now (inverse .entry))) 0 ⌝ }
+    ensures { λ _. ⌜ now (sizes .exit) ≡ replicate (length (now (sizes .entry))) 0 ⌝ }
+    ensures { λ _. ⌜ now (count .exit) ≡ replicate (length (now (count .entry))) 0 ⌝ }
+    ensures { λ _. ⌜ now (heads .exit) ≡ replicate (length (now (heads .entry))) 0 ⌝ }
+    ensures { λ _. ⌜ now (into .exit) ≡ replicate (length (now (into .entry))) 0 ⌝ }
+    ensures { λ _. ⌜ now (stamps .exit) ≡ replicate (length (now (stamps .entry))) 0 ⌝ }
+    ensures { λ _. ⌜ now (table .exit) ≡ replicate (length (now (table .entry))) 0 ⌝ }
+    ensures { λ _. ⌜ now (upper .exit) ≡ replicate (length (now (upper .entry))) 0 ⌝ }
+    ensures { λ _. ⌜ now (bodies .exit) ≡ replicate (length (now (bodies .entry))) 0 ⌝ }
+    ensures { λ _. ⌜ now («unit_starts» .exit) ≡ replicate (length (now («unit_starts» .entry))) 0 ⌝ }
+    ensures { λ _. ⌜ now («d_starts» .exit) ≡ replicate (length (now («d_starts» .entry))) 0 ⌝ }
+    ensures { λ _. ⌜ now (places .exit) ≡ replicate (length (now (places .entry))) 0 ⌝ }
+{
+    scalar::clear(column);
+    plan::core::clear(inverse, sizes, count, heads, into, stamps, table, upper);
+    buckets::core::fill(bodies, 0);
+    buckets::core::fill(unit_starts, 0);
+    buckets::core::fill(d_starts, 0);
+    buckets::core::fill(places, 0);
+}
