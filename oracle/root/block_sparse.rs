@@ -1,5 +1,5 @@
 // Stand-in for the module file of the block-sparse structures and for the triplets that `to_compressed` reads, whose text the
-// source folder does not hold. They store.
+// source folder does not hold, and for the newtype that `factorize_impl` takes. They store.
 pub(crate) mod block_sparse_matrix;
 
 pub use block_sparse_matrix::*;
@@ -27,5 +27,16 @@ pub struct BlockSparseTripletMatrix {
 impl BlockSparseTripletMatrix {
     pub fn scalar_dimension(&self) -> usize {
         self.partitions.scalar_dim()
+    }
+}
+
+#[derive(Clone, Debug)]
+pub struct BlockSparseSymmetricMatrix {
+    pub lower: BlockSparseMatrix,
+}
+
+impl BlockSparseSymmetricMatrix {
+    pub fn subdivision(&self) -> &BlockMatrixSubdivision {
+        &self.lower.subdivision
     }
 }

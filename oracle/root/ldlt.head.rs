@@ -1,4 +1,6 @@
-// Head by the oracle; the threshold below is cut from the source.
+// Head by the oracle; the threshold below, and the traits from the doc comment of `IsLdltWorkspace` on, are cut from the source.
+use std::marker::PhantomData;
+
 pub(crate) mod block_diag_ldlt;
 pub mod block_sparse_ldlt;
 pub(crate) mod dense_bunch_kaufman;
@@ -8,4 +10,7 @@ pub(crate) mod elimination_tree;
 pub use block_diag_ldlt::*;
 pub use dense_ldlt::*;
 pub use elimination_tree::*;
+
+// A type that one method of the tracer's trait names; its text is not in the source folder.
+pub struct SparseLFactorBuilder;
 

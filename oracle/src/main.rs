@@ -1,5 +1,8 @@
-//! Runs the source on every case and writes the two lists with their tables: `answers LIST TABLE PLANS TABLE`.
+//! Runs the source on every case and writes the three lists with their tables: `answers LIST TABLE PLANS TABLE FACTORS TABLE`.
 mod cases;
+mod factor_cases;
+mod factor_list;
+mod factors;
 mod plan_cases;
 mod plan_list;
 mod plans;
@@ -40,8 +43,8 @@ fn main() {
         exit(1);
     }
     let to: Vec<String> = std::env::args().skip(1).collect();
-    let [list, table, plans, plans_table] = &to[..] else {
-        eprintln!("answers LIST TABLE PLANS TABLE");
+    let [list, table, plans, plans_table, factors, factors_table] = &to[..] else {
+        eprintln!("answers LIST TABLE PLANS TABLE FACTORS TABLE");
         exit(2);
     };
     let mut bytes: Vec<u8> = vec![];
@@ -83,4 +86,7 @@ fn main() {
     let (bytes, text) = plan_list::list();
     std::fs::write(plans, bytes).expect("the list of plans is written");
     std::fs::write(plans_table, text).expect("its table is written");
+    let (bytes, text) = factor_list::list();
+    std::fs::write(factors, bytes).expect("the list of factors is written");
+    std::fs::write(factors_table, text).expect("its table is written");
 }

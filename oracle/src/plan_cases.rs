@@ -43,23 +43,27 @@ const EXACT: [i64; BUFFERS] = [0; BUFFERS];
 
 /// Which blocks of the diagonal are stored.
 #[derive(Clone, Copy)]
-enum Diagonal {
+pub enum Diagonal {
     All,
     Some,
     None,
 }
 
-struct Maker {
-    draw: Draw,
+pub struct Maker {
+    pub draw: Draw,
     all: Vec<Case>,
 }
 
 impl Maker {
+    pub fn new(seed: u64) -> Self {
+        Self { draw: Draw(seed), all: vec![] }
+    }
+
     fn below(&mut self, n: usize) -> usize {
         self.draw.below(n as u64) as usize
     }
 
-    fn shuffled(&mut self, n: usize) -> Vec<u32> {
+    pub fn shuffled(&mut self, n: usize) -> Vec<u32> {
         let mut list: Vec<u32> = (0..n as u32).collect();
         for k in (1..n).rev() {
             let other = self.below(k + 1);
@@ -76,7 +80,7 @@ impl Maker {
         }
     }
 
-    fn flags(&mut self, n: usize) -> Vec<u32> {
+    pub fn flags(&mut self, n: usize) -> Vec<u32> {
         match self.below(5) {
             0 | 1 => vec![0; n],
             2 => (0..n).map(|k| (k % 2) as u32).collect(),
@@ -86,7 +90,7 @@ impl Maker {
     }
 
     /// The tables of links, by old numbers in any order, with the drawn diagonal.
-    fn tables(&mut self, n: usize, links: &[(usize, usize)], diagonal: Diagonal) -> Tables {
+    pub fn tables(&mut self, n: usize, links: &[(usize, usize)], diagonal: Diagonal) -> Tables {
         let mut columns: Vec<Vec<u32>> = vec![vec![]; n];
         for &(a, b) in links {
             assert!(a != b);
@@ -113,7 +117,7 @@ impl Maker {
         Tables { dims, starts, rows, perm: (0..n as u32).collect(), late: vec![0; n] }
     }
 
-    fn diagonal(&mut self) -> Diagonal {
+    pub fn diagonal(&mut self) -> Diagonal {
         [Diagonal::All, Diagonal::All, Diagonal::Some, Diagonal::None][self.below(4)]
     }
 
@@ -134,7 +138,7 @@ impl Maker {
     }
 
     /// So many links, drawn.
-    fn links(&mut self, n: usize, count: usize) -> Vec<(usize, usize)> {
+    pub fn links(&mut self, n: usize, count: usize) -> Vec<(usize, usize)> {
         let mut links = vec![];
         while n > 1 && links.len() < count {
             let (a, b) = (self.below(n), self.below(n));
@@ -309,7 +313,7 @@ impl Maker {
     }
 
     /// 4,097 blocks without a stored one.
-    fn many_blocks(&mut self) -> Tables {
+    pub fn many_blocks(&mut self) -> Tables {
         let n = 4097;
         let mut tables = self.tables(n, &[], Diagonal::None);
         tables.dims = vec![1; n];
@@ -317,7 +321,7 @@ impl Maker {
     }
 
     /// 65,537 stored blocks: full columns of 512 blocks, and then none.
-    fn many_stored(&mut self) -> Tables {
+    pub fn many_stored(&mut self) -> Tables {
         let n = 512u32;
         let (mut starts, mut rows) = (vec![0], vec![]);
         for j in 0..n {
@@ -329,7 +333,7 @@ impl Maker {
     }
 
     /// Five blocks, ten stored, in the order 3 1 4 0 2.
-    fn base(&self) -> Tables {
+    pub fn base(&self) -> Tables {
         Tables {
             dims: vec![2, 1, 3, 16, 1],
             starts: vec![0, 3, 5, 7, 9, 10],
@@ -340,7 +344,7 @@ impl Maker {
     }
 
     /// The faults of a small night: number and what is done to it.
-    fn faults() -> Vec<(u32, fn(&mut Tables))> {
+    pub fn faults() -> Vec<(u32, fn(&mut Tables))> {
         vec![
             (2, |t| t.dims[0] = 0),
             (2, |t| t.dims[3] = 17),
@@ -571,7 +575,7 @@ fn walks(plans: &[Case]) -> Vec<Case> {
 }
 
 pub fn cases() -> Vec<Case> {
-    let mut maker = Maker { draw: Draw(0x706C616E73), all: vec![] };
+    let mut maker = Maker::new(0x706C616E73);
     maker.random();
     maker.shapes();
     maker.late();

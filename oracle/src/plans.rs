@@ -72,7 +72,7 @@ pub struct Answer {
 }
 
 /// The first refusal of the tables, by number and then by place, read from document 01: 1 to 6, `values` for 7, then 8 and 9.
-fn refused(t: &Tables, values: Option<u32>) -> Option<Refusal> {
+pub fn refused(t: &Tables, values: Option<u32>) -> Option<Refusal> {
     let (n, m) = (t.dims.len(), t.rows.len());
     let told = |number: u32, place: usize| Some((number, place as u32, 0));
     if n > 4096 {
@@ -227,7 +227,7 @@ fn walked(t: &Tables) -> Walks {
 }
 
 /// The source's plan of tables that are right.
-fn planned(t: &Tables) -> Plan {
+pub fn planned(t: &Tables) -> Plan {
     let a_lower = matrix(t);
     let (order, inverse) = block_sparse_ldlt::order(&a_lower, t.perm.iter().map(|&k| k as usize).collect());
     let (flat_sub, a_lower_perm) = block_sparse_ldlt::permute(&a_lower, &order, &inverse);

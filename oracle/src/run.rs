@@ -154,7 +154,7 @@ fn one_block(n: usize, tolerance: f64) -> BlockDiagonalLdltSystem {
     BlockDiagonalLdltSystem::zero(&[spec], tolerance)
 }
 
-fn numbers(view: DMatrixView<'_, f64>) -> Vec<f64> {
+pub fn numbers(view: DMatrixView<'_, f64>) -> Vec<f64> {
     (0..view.ncols()).flat_map(|c| (0..view.nrows()).map(move |r| view[(r, c)])).collect()
 }
 

@@ -1,2 +1,3 @@
 -- The written definitions that the contracts cite.
 pub mod Factorize  -- what a factorization answers, and what it leaves in every lent place
+pub mod Written  -- its outputs before the scratch is cleared

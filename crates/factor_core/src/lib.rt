@@ -10,25 +10,40 @@ pub enum Factorized {
     // 1
     Blocks,
     // 2: the block.
-    Dimension { place: usize },
+    Dimension {
+        place: usize,
+    },
     // 3: the entry of the column starts.
-    Starts { place: usize },
+    Starts {
+        place: usize,
+    },
     // 4
     Stored,
     // 5: the entry of the row table.
-    Row { place: usize },
+    Row {
+        place: usize,
+    },
     // 6: the entry of the row table.
-    Order { place: usize },
+    Order {
+        place: usize,
+    },
     // 7
     Values,
     // 8: the entry of the permutation.
-    Permutation { place: usize },
+    Permutation {
+        place: usize,
+    },
     // 9: the late flag.
-    Late { place: usize },
+    Late {
+        place: usize,
+    },
     // 10
     Tolerance,
     // 11: which lent buffer, counted from 0 in the order of the call, and its need.
-    Short { which: usize, need: usize },
+    Short {
+        which: usize,
+        need: usize,
+    },
     // 13: the pivot of row `place` of a block, by new number, is NaN or infinite.
     NotFinite {
         block: usize,
@@ -36,5 +51,8 @@ pub enum Factorized {
         pivot: f64,
     },
     // 14: a block, by new number, is indefinite with a condition below 1e-10.
-    Poor { block: usize, condition: f64 },
+    Poor {
+        block: usize,
+        condition: f64,
+    },
 }

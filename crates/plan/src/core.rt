@@ -8,7 +8,7 @@ ghost use Rattle.tables.specs.Sound.{PlanSound};
 ghost use Rattle.plan.specs.Plan.{night, places, Plans, Exact};
 
 // Zeros in all scratch.
-fn clear(
+pub fn clear(
     inverse: &mut [u32],
     sizes: &mut [u32],
     count: &mut [u32],

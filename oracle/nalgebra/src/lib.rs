@@ -1,13 +1,19 @@
-//! Containers under nalgebra's names, for the source files to compile over. Storage only: column-major, indexing with
-//! its bounds tested, sizes, views and copies. Nothing here adds, multiplies or divides numbers of a matrix; the three
-//! arithmetic methods that the source names elsewhere stop the program.
-use std::ops::{AddAssign, Index, IndexMut};
+//! Containers under nalgebra's names, for the source files to compile over: column-major, indexing with its bounds tested, sizes,
+//! views and copies. Of arithmetic there are two methods, both on matrices: the sum of `add_assign` and the product of `gemm`, as
+//! document 01 has it. The other two that the source names stop the program.
+use std::{
+    cell::Cell,
+    marker::PhantomData,
+    ops::{AddAssign, Index, IndexMut, Range},
+};
 
 #[derive(Clone, Debug)]
 pub struct DMatrix<T> {
     numbers: Vec<T>,
     nrows: usize,
     ncols: usize,
+    // from a column to the next
+    stride: usize,
 }
 
 #[derive(Clone, Copy, Debug)]
@@ -15,6 +21,7 @@ pub struct DMatrixView<'a, T> {
     numbers: &'a [T],
     nrows: usize,
     ncols: usize,
+    stride: usize,
 }
 
 #[derive(Debug)]
@@ -22,6 +29,7 @@ pub struct DMatrixViewMut<'a, T> {
     numbers: &'a mut [T],
     nrows: usize,
     ncols: usize,
+    stride: usize,
 }
 
 #[derive(Clone, Debug)]
@@ -43,24 +51,45 @@ pub struct DVectorViewMut<'a, T> {
 #[derive(Clone, Copy, Debug)]
 pub struct RowView<'a, T> {
     numbers: &'a [T],
-    nrows: usize,
+    stride: usize,
 }
 
 impl<T> Index<usize> for RowView<'_, T> {
     type Output = T;
     #[inline]
     fn index(&self, j: usize) -> &T {
-        &self.numbers[j * self.nrows]
+        &self.numbers[j * self.stride]
     }
 }
 
+// The long name of a view, which the source spells out once.
+pub struct Dyn;
+pub struct Const<const N: usize>;
+pub struct ViewStorage<'a, T, R, C, RS, CS>(PhantomData<(&'a T, R, C, RS, CS)>);
+pub trait Named<T> {
+    type Is;
+}
+impl<'a, T> Named<T> for (Dyn, Dyn, ViewStorage<'a, T, Dyn, Dyn, Const<1>, Dyn>) {
+    type Is = DMatrixView<'a, T>;
+}
+pub type Matrix<T, R, C, S> = <(R, C, S) as Named<T>>::Is;
+
+thread_local! {
+    static PRODUCTS: Cell<u64> = const { Cell::new(0) };
+}
+
+// How often `gemm` was called since this was asked last.
+pub fn products() -> u64 {
+    PRODUCTS.replace(0)
+}
+
 fn no_arithmetic() -> ! {
-    panic!("this stand-in for nalgebra stores numbers and does no arithmetic")
+    panic!("this stand-in for nalgebra does no such arithmetic")
 }
 
 // What can be copied from.
 pub trait Stored<T> {
-    fn stored(&self) -> (&[T], usize, usize);
+    fn stored(&self) -> DMatrixView<'_, T>;
 }
 
 // What the three matrix types share.
@@ -82,21 +111,21 @@ macro_rules! matrix {
             #[inline]
             fn place(&self, (i, j): (usize, usize)) -> usize {
                 assert!(i < self.nrows && j < self.ncols, "matrix index out of bounds");
-                i + j * self.nrows
+                i + j * self.stride
             }
             #[inline]
             pub fn column(&self, j: usize) -> DVectorView<'_, T> {
                 assert!(j < self.ncols, "matrix column out of bounds");
-                DVectorView { numbers: &self.numbers[j * self.nrows..(j + 1) * self.nrows] }
+                DVectorView { numbers: &self.numbers[j * self.stride..][..self.nrows] }
             }
             #[inline]
             pub fn row(&self, i: usize) -> RowView<'_, T> {
                 assert!(i < self.nrows, "matrix row out of bounds");
-                RowView { numbers: &self.numbers[i..], nrows: self.nrows }
+                RowView { numbers: &self.numbers[i..], stride: self.stride }
             }
             #[inline]
             pub fn as_view(&self) -> DMatrixView<'_, T> {
-                DMatrixView { numbers: &self.numbers, nrows: self.nrows, ncols: self.ncols }
+                DMatrixView { numbers: &self.numbers, nrows: self.nrows, ncols: self.ncols, stride: self.stride }
             }
         }
         impl<$($g)*> Index<(usize, usize)> for $t {
@@ -107,8 +136,8 @@ macro_rules! matrix {
             }
         }
         impl<$($g)*> Stored<T> for $t {
-            fn stored(&self) -> (&[T], usize, usize) {
-                (&self.numbers, self.nrows, self.ncols)
+            fn stored(&self) -> DMatrixView<'_, T> {
+                self.as_view()
             }
         }
     };
@@ -122,7 +151,7 @@ macro_rules! matrix_mut {
         impl<$($g)*> $t {
             #[inline]
             pub fn as_view_mut(&mut self) -> DMatrixViewMut<'_, T> {
-                DMatrixViewMut { numbers: &mut self.numbers, nrows: self.nrows, ncols: self.ncols }
+                DMatrixViewMut { numbers: &mut self.numbers, nrows: self.nrows, ncols: self.ncols, stride: self.stride }
             }
         }
         impl<$($g)*> IndexMut<(usize, usize)> for $t {
@@ -139,51 +168,85 @@ matrix_mut!(['a, T] DMatrixViewMut<'a, T>);
 
 impl DMatrix<f64> {
     pub fn zeros(nrows: usize, ncols: usize) -> Self {
-        Self { numbers: vec![0.0; nrows * ncols], nrows, ncols }
+        Self { numbers: vec![0.0; nrows * ncols], nrows, ncols, stride: nrows }
     }
     pub fn from_column_slice(nrows: usize, ncols: usize, numbers: &[f64]) -> Self {
         assert_eq!(numbers.len(), nrows * ncols);
-        Self { numbers: numbers.to_vec(), nrows, ncols }
+        Self { numbers: numbers.to_vec(), nrows, ncols, stride: nrows }
+    }
+    // The upper left part.
+    pub fn view_range_mut(&mut self, rows: Range<usize>, columns: Range<usize>) -> DMatrixViewMut<'_, f64> {
+        assert!(rows.start == 0 && rows.end <= self.nrows && columns.start == 0 && columns.end <= self.ncols);
+        DMatrixViewMut { numbers: &mut self.numbers, nrows: rows.end, ncols: columns.end, stride: self.stride }
     }
 }
 
 impl<'a, T> DMatrixView<'a, T> {
     pub fn from_slice(numbers: &'a [T], nrows: usize, ncols: usize) -> Self {
         assert_eq!(numbers.len(), nrows * ncols);
-        Self { numbers, nrows, ncols }
+        Self { numbers, nrows, ncols, stride: nrows }
     }
 }
 
 impl<'a, T> DMatrixViewMut<'a, T> {
     pub fn from_slice(numbers: &'a mut [T], nrows: usize, ncols: usize) -> Self {
         assert_eq!(numbers.len(), nrows * ncols);
-        Self { numbers, nrows, ncols }
+        Self { numbers, nrows, ncols, stride: nrows }
     }
 }
 
 impl<T: Clone> DMatrixView<'_, T> {
     pub fn clone_owned(&self) -> DMatrix<T> {
-        DMatrix { numbers: self.numbers.to_vec(), nrows: self.nrows, ncols: self.ncols }
+        let numbers = (0..self.ncols).flat_map(|j| self.column(j).numbers.iter().cloned()).collect();
+        DMatrix { numbers, nrows: self.nrows, ncols: self.ncols, stride: self.nrows }
     }
 }
 
 impl<T: Clone> DMatrixViewMut<'_, T> {
     pub fn clone_owned(&self) -> DMatrix<T> {
-        DMatrix { numbers: self.numbers.to_vec(), nrows: self.nrows, ncols: self.ncols }
+        self.as_view().clone_owned()
     }
     pub fn copy_from(&mut self, from: &impl Stored<T>) {
-        let (numbers, nrows, ncols) = from.stored();
-        assert_eq!((self.nrows, self.ncols), (nrows, ncols));
-        self.numbers.clone_from_slice(numbers);
+        let from = from.stored();
+        assert_eq!((self.nrows, self.ncols), (from.nrows, from.ncols));
+        for j in 0..self.ncols {
+            self.numbers[j * self.stride..][..self.nrows].clone_from_slice(from.column(j).numbers);
+        }
     }
     pub fn fill(&mut self, value: T) {
-        self.numbers.fill(value);
+        for j in 0..self.ncols {
+            self.numbers[j * self.stride..][..self.nrows].fill(value.clone());
+        }
     }
 }
 
-impl<T> AddAssign<&DMatrixView<'_, T>> for DMatrixViewMut<'_, T> {
-    fn add_assign(&mut self, _: &DMatrixView<'_, T>) {
-        no_arithmetic()
+// Each number is added to the one in its place.
+impl AddAssign<&DMatrixView<'_, f64>> for DMatrixViewMut<'_, f64> {
+    fn add_assign(&mut self, other: &DMatrixView<'_, f64>) {
+        assert_eq!((self.nrows, self.ncols), (other.nrows, other.ncols));
+        for j in 0..self.ncols {
+            for i in 0..self.nrows {
+                self[(i, j)] += other[(i, j)];
+            }
+        }
+    }
+}
+
+impl DMatrixViewMut<'_, f64> {
+    // The product a b in place of what is there: an entry starts from its t = 0 product and adds the others in ascending t.
+    pub fn gemm(&mut self, alpha: f64, a: &DMatrixView<'_, f64>, b: &DMatrixView<'_, f64>, beta: f64) {
+        assert!(alpha == 1.0 && beta == 0.0 && b.nrows > 0);
+        assert_eq!((self.nrows, self.ncols, a.ncols), (a.nrows, b.ncols, b.nrows));
+        PRODUCTS.set(PRODUCTS.get() + 1);
+        for j in 0..self.ncols {
+            for i in 0..self.nrows {
+                let mut sum = a[(i, 0)] * b[(0, j)];
+                for t in 1..b.nrows {
+                    sum += a[(i, t)] * b[(t, j)];
+                }
+                self[(i, j)] = sum;
+            }
+        }
     }
 }
 
