@@ -1,0 +1,389 @@
+-- How a factorization in the first places of longer buffers is one in the whole. Assumes nothing.
+use Prim.Native.Nat.{ℕ, _+_, _-_, _≤_, _<_}
+use mathlib.Core.Bool.{Bool, true, false, cond}
+use mathlib.Core.List.{List, _++_, append-nil}
+use mathlib.Core.Logic.{_↔_}
+use mathlib.Core.Path.{_≡_, refl, sym, ap, ap₂, subst, _∙_}
+use native.Mathlib.Omega.{arith}
+use lib.Dec.{T}
+use lib.Seq.{slice, length-take-le}
+use lib.ListN.{length, take, drop, replicate, take-append-drop, drop-of-length-le, length-append}
+use Rattle.scalar.specs.Block.{zeros}
+use Rattle.graph.specs.Sets.{elem, between}
+use Rattle.graph.specs.Links.{rowsIn}
+use Rattle.graph.specs.Path.{Stored}
+use Rattle.graph.specs.Count.{productsOf}
+use Rattle.graph.specs.Tree.{Parent}
+use Rattle.graph.proofs.SetLaws.{between-elim}
+use Rattle.graph.proofs.SumLaws.{sum-ext}
+use Rattle.refusal.specs.Refusal.{Told, done, refuses, after}
+use Rattle.tables.specs.Verdict.{at}
+use Rattle.buckets.proofs.Lists.{front}
+use Rattle.elimination_tree.specs.Tree.{decode, parentsOf}
+use Rattle.scalars.specs.Scalars.{scalarCount}
+use Rattle.machine.specs.System.{System, blocks, links, order}
+use Rattle.machine.specs.Machine.{run}
+use Rattle.layout.specs.Layout.{unitsNeed, workNeed}
+use Rattle.factor_setup.specs.Exact.{lStarts, unitsAfter, pivotsAfter}
+use Rattle.factor_core.specs.Factorize.{Places, whole, Demand3, Factors, Exact}
+use Rattle.factor_core.specs.declared.Factorized.{Factorized}
+use Rattle.factor_lent.specs.Room.{Enough, Exactly, Outputs, PlanScratch, NumberScratch}
+
+-- ---- the first n places of a buffer, and those beyond; n is worked out to be the need
+
+-- a buffer that meets its need has them
+pub fits : {n need have : ℕ} → n ≡ need → need ≤ have → n ≤ have
+fits e le = omega arith
+
+-- and they are as many as the need
+pub cut-length : {A : Type 0} (n : ℕ) {need : ℕ} (xs : List A) → n ≡ need → need ≤ length xs → length (take n xs) ≡ need
+cut-length n xs e le = length-take-le n xs (fits e le) ∙ e
+
+-- a front that was changed in place leaves the length
+pub join-length : {A : Type 0} (n : ℕ) (xs ys : List A) → length ys ≡ length (take n xs) → length (ys ++ drop n xs) ≡ length xs
+join-length {A} n xs ys e = length-append ys (drop n xs) ∙ (ap (λ (k : ℕ). k + length (drop n xs)) e ∙ (sym (length-append (take n xs) (drop n xs)) ∙ ap {A = List A} length (take-append-drop n xs)))
+
+-- in a buffer that has exactly its need, nothing stands beyond
+exact : {A : Type 0} (n : ℕ) (xs new : List A) → length xs ≡ n → new ≡ new ++ drop n xs
+exact {A} n xs new e = let h : length xs ≤ n = omega arith in sym (ap (λ (l : List A). new ++ l) (drop-of-length-le xs h) ∙ append-nil new)
+
+-- what stands in the first places, and beyond
+lifted : {A : Type 0} (w : Told) (n need : ℕ) (xs new ys : List A) → n ≡ need → need ≤ length xs → ys ≡ after w (take n xs) (new ++ drop need (take n xs)) → ys ++ drop n xs ≡ after w xs (new ++ drop need xs)
+lifted {A} w n need xs new ys e le is = by-case (refuses w) is
+  where
+    by-case : (t : Bool) → ys ≡ cond t (take n xs) (new ++ drop need (take n xs)) → ys ++ drop n xs ≡ cond t xs (new ++ drop need xs)
+    by-case true is = ap (λ (l : List A). l ++ drop n xs) is ∙ take-append-drop n xs
+    by-case false is = ap₂ (λ (l : List A) (k : ℕ). l ++ drop k xs) (is ∙ sym (exact need (take n xs) new (cut-length n xs e le))) e
+
+-- demand 3 reads no place beyond the n + 1 column starts
+demand3-joined : (a : System) (products : ℕ) (starts rest rows : List ℕ) → length starts ≡ blocks a + 1 → Demand3 a products starts rows → Demand3 a products (starts ++ rest) rows
+demand3-joined a products starts rest rows long g =
+    record {
+      state = g .state;
+      accepts = g .accepts;
+      worked = g .worked;
+      summed = g .summed ∙ sum-ext (between 0 (blocks a)) (λ k. productsOf (at starts (k + 1) - at starts k)) (λ k. productsOf (at (starts ++ rest) (k + 1) - at (starts ++ rest) k)) (λ k m. same-product k (between-elim k 0 (blocks a) m .1));
+      path-rule = λ k i h. subst (λ (l : List ℕ). T (elem i l) ↔ ((i < blocks a) × Stored (links a) k i)) (sym (same-rows k h)) (g .path-rule k i h);
+    }
+  where
+    same : (k : ℕ) → k < blocks a + 1 → at (starts ++ rest) k ≡ at starts k
+    same k h = front starts rest k (subst (λ (m : ℕ). k < m) (sym long) h)
+
+    same-product : (k : ℕ) → k < blocks a → productsOf (at starts (k + 1) - at starts k) ≡ productsOf (at (starts ++ rest) (k + 1) - at (starts ++ rest) k)
+    same-product k h = ap productsOf (ap₂ _-_ (sym (same (k + 1) (omega arith))) (sym (same k (omega arith))))
+
+    same-rows : (k : ℕ) → k < blocks a → rowsIn (starts ++ rest) rows k ≡ rowsIn starts rows k
+    same-rows k h = ap₂ (λ (x y : ℕ). slice x y rows) (same k (omega arith)) (same (k + 1) (omega arith))
+
+-- ---- the outputs but those of L
+
+-- each cut to its need
+abbrev pub cutOutputs : System → (units scalars : ℕ) → Places → Places
+cutOutputs a units scalars b = record {
+  order = take (blocks a) (b .order);
+  parents = take (blocks a) (b .parents);
+  lStarts = take (blocks a + 1) (b .lStarts);
+  lRows = b .lRows;
+  lOffsets = b .lOffsets;
+  lValues = b .lValues;
+  diag = take units (b .diag);
+  d = take scalars (b .d);
+  column = b .column;
+  inverse = b .inverse;
+  sizes = b .sizes;
+  count = b .count;
+  heads = b .heads;
+  into = b .into;
+  stamps = b .stamps;
+  table = b .table;
+  upper = b .upper;
+  bodies = b .bodies;
+  unitStarts = b .unitStarts;
+  dStarts = b .dStarts;
+  places = b .places;
+}
+
+-- what stands beyond joined to c
+abbrev pub joinOutputs : System → (units scalars : ℕ) → (b c : Places) → Places
+joinOutputs a units scalars b c = record {
+  order = c .order ++ drop (blocks a) (b .order);
+  parents = c .parents ++ drop (blocks a) (b .parents);
+  lStarts = c .lStarts ++ drop (blocks a + 1) (b .lStarts);
+  lRows = c .lRows;
+  lOffsets = c .lOffsets;
+  lValues = c .lValues;
+  diag = c .diag ++ drop units (b .diag);
+  d = c .d ++ drop scalars (b .d);
+  column = c .column;
+  inverse = c .inverse;
+  sizes = c .sizes;
+  count = c .count;
+  heads = c .heads;
+  into = c .into;
+  stamps = c .stamps;
+  table = c .table;
+  upper = c .upper;
+  bodies = c .bodies;
+  unitStarts = c .unitStarts;
+  dStarts = c .dStarts;
+  places = c .places;
+}
+
+module _ (a : System) (units scalars : ℕ) (b : Places) where
+  pub outputs-exact : units ≡ unitsNeed (a .dims) → scalars ≡ scalarCount (a .dims) → Outputs Enough a (b .order) (b .parents) (b .lStarts) (b .diag) (b .d) → Outputs Exactly a (take (blocks a) (b .order)) (take (blocks a) (b .parents)) (take (blocks a + 1) (b .lStarts)) (take units (b .diag)) (take scalars (b .d))
+  outputs-exact units-is scalars-is m = record {
+    of-order = cut-length (blocks a) (b .order) refl (m .of-order);
+    of-parents = cut-length (blocks a) (b .parents) refl (m .of-parents);
+    of-l-starts = cut-length (blocks a + 1) (b .lStarts) refl (m .of-l-starts);
+    of-diag = cut-length units (b .diag) units-is (m .of-diag);
+    of-d = cut-length scalars (b .d) scalars-is (m .of-d);
+  }
+
+  -- a factorization in what is cut is one in the whole
+  pub outputs-lengthened : (c : Places) (r : Factorized) → units ≡ unitsNeed (a .dims) → scalars ≡ scalarCount (a .dims) → Outputs Enough a (b .order) (b .parents) (b .lStarts) (b .diag) (b .d)
+      → length (c .parents) ≡ length (take (blocks a) (b .parents)) → length (c .lStarts) ≡ length (take (blocks a + 1) (b .lStarts))
+      → Factors done a (cutOutputs a units scalars b) r c → Factors done a b r (joinOutputs a units scalars b c)
+  unfolding whole
+  outputs-lengthened c r units-is scalars-is m parents-kept starts-kept q = record {
+    outcome = q .outcome;
+    order = lifted (whole done a b) (blocks a) (blocks a) (b .order) (order a) (c .order) refl (m .of-order) (q .order);
+    parents = lifted (whole done a b) (blocks a) (blocks a) (b .parents) (parentsOf (links a) (blocks a)) (c .parents) refl (m .of-parents) (q .parents);
+    lStarts = lifted (whole done a b) (blocks a + 1) (blocks a + 1) (b .lStarts) (lStarts a) (c .lStarts) refl (m .of-l-starts) (q .lStarts);
+    lRows = q .lRows;
+    lOffsets = q .lOffsets;
+    lValues = q .lValues;
+    diag = lifted (whole done a b) units (unitsNeed (a .dims)) (b .diag) (unitsAfter a (run a)) (c .diag) units-is (m .of-diag) (q .diag);
+    d = lifted (whole done a b) scalars (scalarCount (a .dims)) (b .d) (pivotsAfter a (run a)) (c .d) scalars-is (m .of-d) (q .d);
+    column = q .column;
+    inverse = q .inverse;
+    sizes = q .sizes;
+    count = q .count;
+    heads = q .heads;
+    into = q .into;
+    stamps = q .stamps;
+    table = q .table;
+    upper = q .upper;
+    bodies = q .bodies;
+    unitStarts = q .unitStarts;
+    dStarts = q .dStarts;
+    places = q .places;
+    liu = λ passes k h. subst (λ (p : ℕ). Parent (links a) (blocks a) k (decode p)) (sym (front (c .parents) (drop (blocks a) (b .parents)) k (subst (λ (l : ℕ). k < l) (sym (parents-kept ∙ length-take-le (blocks a) (b .parents) (m .of-parents))) h))) (q .liu passes k h);
+    demand3 = λ counts is. demand3-joined a (counts .products) (c .lStarts) (drop (blocks a + 1) (b .lStarts)) (c .lRows) (starts-kept ∙ length-take-le (blocks a + 1) (b .lStarts) (m .of-l-starts)) (q .demand3 counts is);
+  }
+
+-- ---- the scratch of the plan
+
+-- each cut to its need
+abbrev pub cutPlan : System → Places → Places
+cutPlan a b = record {
+  order = b .order;
+  parents = b .parents;
+  lStarts = b .lStarts;
+  lRows = b .lRows;
+  lOffsets = b .lOffsets;
+  lValues = b .lValues;
+  diag = b .diag;
+  d = b .d;
+  column = b .column;
+  inverse = take (blocks a) (b .inverse);
+  sizes = take (blocks a) (b .sizes);
+  count = take (blocks a) (b .count);
+  heads = take (blocks a + 1) (b .heads);
+  into = take (blocks a + 1) (b .into);
+  stamps = take (blocks a) (b .stamps);
+  table = take (length (a .rows)) (b .table);
+  upper = take (length (a .rows)) (b .upper);
+  bodies = b .bodies;
+  unitStarts = b .unitStarts;
+  dStarts = b .dStarts;
+  places = b .places;
+}
+
+-- what stands beyond joined to c
+abbrev pub joinPlan : System → (b c : Places) → Places
+joinPlan a b c = record {
+  order = c .order;
+  parents = c .parents;
+  lStarts = c .lStarts;
+  lRows = c .lRows;
+  lOffsets = c .lOffsets;
+  lValues = c .lValues;
+  diag = c .diag;
+  d = c .d;
+  column = c .column;
+  inverse = c .inverse ++ drop (blocks a) (b .inverse);
+  sizes = c .sizes ++ drop (blocks a) (b .sizes);
+  count = c .count ++ drop (blocks a) (b .count);
+  heads = c .heads ++ drop (blocks a + 1) (b .heads);
+  into = c .into ++ drop (blocks a + 1) (b .into);
+  stamps = c .stamps ++ drop (blocks a) (b .stamps);
+  table = c .table ++ drop (length (a .rows)) (b .table);
+  upper = c .upper ++ drop (length (a .rows)) (b .upper);
+  bodies = c .bodies;
+  unitStarts = c .unitStarts;
+  dStarts = c .dStarts;
+  places = c .places;
+}
+
+module _ (a : System) (b : Places) where
+  pub plan-exact : PlanScratch Enough a (b .inverse) (b .sizes) (b .count) (b .heads) (b .into) (b .stamps) (b .table) (b .upper) → PlanScratch Exactly a (take (blocks a) (b .inverse)) (take (blocks a) (b .sizes)) (take (blocks a) (b .count)) (take (blocks a + 1) (b .heads)) (take (blocks a + 1) (b .into)) (take (blocks a) (b .stamps)) (take (length (a .rows)) (b .table)) (take (length (a .rows)) (b .upper))
+  plan-exact m = record {
+    of-inverse = cut-length (blocks a) (b .inverse) refl (m .of-inverse);
+    of-sizes = cut-length (blocks a) (b .sizes) refl (m .of-sizes);
+    of-count = cut-length (blocks a) (b .count) refl (m .of-count);
+    of-heads = cut-length (blocks a + 1) (b .heads) refl (m .of-heads);
+    of-into = cut-length (blocks a + 1) (b .into) refl (m .of-into);
+    of-stamps = cut-length (blocks a) (b .stamps) refl (m .of-stamps);
+    of-table = cut-length (length (a .rows)) (b .table) refl (m .of-table);
+    of-upper = cut-length (length (a .rows)) (b .upper) refl (m .of-upper);
+  }
+
+  -- a factorization in what is cut is one in the whole
+  pub plan-lengthened : (c : Places) (r : Factorized) → PlanScratch Enough a (b .inverse) (b .sizes) (b .count) (b .heads) (b .into) (b .stamps) (b .table) (b .upper)
+      → Factors done a (cutPlan a b) r c → Factors done a b r (joinPlan a b c)
+  unfolding whole
+  plan-lengthened c r m q = record {
+    outcome = q .outcome;
+    order = q .order;
+    parents = q .parents;
+    lStarts = q .lStarts;
+    lRows = q .lRows;
+    lOffsets = q .lOffsets;
+    lValues = q .lValues;
+    diag = q .diag;
+    d = q .d;
+    column = q .column;
+    inverse = lifted done (blocks a) (blocks a) (b .inverse) (replicate (blocks a) 0) (c .inverse) refl (m .of-inverse) (q .inverse);
+    sizes = lifted done (blocks a) (blocks a) (b .sizes) (replicate (blocks a) 0) (c .sizes) refl (m .of-sizes) (q .sizes);
+    count = lifted done (blocks a) (blocks a) (b .count) (replicate (blocks a) 0) (c .count) refl (m .of-count) (q .count);
+    heads = lifted done (blocks a + 1) (blocks a + 1) (b .heads) (replicate (blocks a + 1) 0) (c .heads) refl (m .of-heads) (q .heads);
+    into = lifted done (blocks a + 1) (blocks a + 1) (b .into) (replicate (blocks a + 1) 0) (c .into) refl (m .of-into) (q .into);
+    stamps = lifted done (blocks a) (blocks a) (b .stamps) (replicate (blocks a) 0) (c .stamps) refl (m .of-stamps) (q .stamps);
+    table = lifted done (length (a .rows)) (length (a .rows)) (b .table) (replicate (length (a .rows)) 0) (c .table) refl (m .of-table) (q .table);
+    upper = lifted done (length (a .rows)) (length (a .rows)) (b .upper) (replicate (length (a .rows)) 0) (c .upper) refl (m .of-upper) (q .upper);
+    bodies = q .bodies;
+    unitStarts = q .unitStarts;
+    dStarts = q .dStarts;
+    places = q .places;
+    liu = q .liu;
+    demand3 = q .demand3;
+  }
+
+-- ---- the scratch of the numbers
+
+-- each cut to its need
+abbrev pub cutNumbers : System → (work : ℕ) → Places → Places
+cutNumbers a work b = record {
+  order = b .order;
+  parents = b .parents;
+  lStarts = b .lStarts;
+  lRows = b .lRows;
+  lOffsets = b .lOffsets;
+  lValues = b .lValues;
+  diag = b .diag;
+  d = b .d;
+  column = take work (b .column);
+  inverse = b .inverse;
+  sizes = b .sizes;
+  count = b .count;
+  heads = b .heads;
+  into = b .into;
+  stamps = b .stamps;
+  table = b .table;
+  upper = b .upper;
+  bodies = take (length (a .rows) + 1) (b .bodies);
+  unitStarts = take (blocks a + 1) (b .unitStarts);
+  dStarts = take (blocks a + 1) (b .dStarts);
+  places = take (blocks a) (b .places);
+}
+
+-- what stands beyond joined to c
+abbrev pub joinNumbers : System → (work : ℕ) → (b c : Places) → Places
+joinNumbers a work b c = record {
+  order = c .order;
+  parents = c .parents;
+  lStarts = c .lStarts;
+  lRows = c .lRows;
+  lOffsets = c .lOffsets;
+  lValues = c .lValues;
+  diag = c .diag;
+  d = c .d;
+  column = c .column ++ drop work (b .column);
+  inverse = c .inverse;
+  sizes = c .sizes;
+  count = c .count;
+  heads = c .heads;
+  into = c .into;
+  stamps = c .stamps;
+  table = c .table;
+  upper = c .upper;
+  bodies = c .bodies ++ drop (length (a .rows) + 1) (b .bodies);
+  unitStarts = c .unitStarts ++ drop (blocks a + 1) (b .unitStarts);
+  dStarts = c .dStarts ++ drop (blocks a + 1) (b .dStarts);
+  places = c .places ++ drop (blocks a) (b .places);
+}
+
+module _ (a : System) (work : ℕ) (b : Places) where
+  pub numbers-exact : work ≡ workNeed (a .dims) → NumberScratch Enough a (b .column) (b .bodies) (b .unitStarts) (b .dStarts) (b .places) → NumberScratch Exactly a (take work (b .column)) (take (length (a .rows) + 1) (b .bodies)) (take (blocks a + 1) (b .unitStarts)) (take (blocks a + 1) (b .dStarts)) (take (blocks a) (b .places))
+  numbers-exact work-is m = record {
+    of-column = cut-length work (b .column) work-is (m .of-column);
+    of-bodies = cut-length (length (a .rows) + 1) (b .bodies) refl (m .of-bodies);
+    of-unit-starts = cut-length (blocks a + 1) (b .unitStarts) refl (m .of-unit-starts);
+    of-d-starts = cut-length (blocks a + 1) (b .dStarts) refl (m .of-d-starts);
+    of-places = cut-length (blocks a) (b .places) refl (m .of-places);
+  }
+
+  -- a factorization in what is cut is one in the whole
+  pub numbers-lengthened : (c : Places) (r : Factorized) → work ≡ workNeed (a .dims) → NumberScratch Enough a (b .column) (b .bodies) (b .unitStarts) (b .dStarts) (b .places)
+      → Factors done a (cutNumbers a work b) r c → Factors done a b r (joinNumbers a work b c)
+  unfolding whole
+  numbers-lengthened c r work-is m q = record {
+    outcome = q .outcome;
+    order = q .order;
+    parents = q .parents;
+    lStarts = q .lStarts;
+    lRows = q .lRows;
+    lOffsets = q .lOffsets;
+    lValues = q .lValues;
+    diag = q .diag;
+    d = q .d;
+    column = lifted done work (workNeed (a .dims)) (b .column) (zeros (workNeed (a .dims))) (c .column) work-is (m .of-column) (q .column);
+    inverse = q .inverse;
+    sizes = q .sizes;
+    count = q .count;
+    heads = q .heads;
+    into = q .into;
+    stamps = q .stamps;
+    table = q .table;
+    upper = q .upper;
+    bodies = lifted done (length (a .rows) + 1) (length (a .rows) + 1) (b .bodies) (replicate (length (a .rows) + 1) 0) (c .bodies) refl (m .of-bodies) (q .bodies);
+    unitStarts = lifted done (blocks a + 1) (blocks a + 1) (b .unitStarts) (replicate (blocks a + 1) 0) (c .unitStarts) refl (m .of-unit-starts) (q .unitStarts);
+    dStarts = lifted done (blocks a + 1) (blocks a + 1) (b .dStarts) (replicate (blocks a + 1) 0) (c .dStarts) refl (m .of-d-starts) (q .dStarts);
+    places = lifted done (blocks a) (blocks a) (b .places) (replicate (blocks a) 0) (c .places) refl (m .of-places) (q .places);
+    liu = q .liu;
+    demand3 = q .demand3;
+  }
+
+-- ---- all of them
+
+pub all-exact : (a : System) (b : Places) → Outputs Exactly a (b .order) (b .parents) (b .lStarts) (b .diag) (b .d) → PlanScratch Exactly a (b .inverse) (b .sizes) (b .count) (b .heads) (b .into) (b .stamps) (b .table) (b .upper) → NumberScratch Exactly a (b .column) (b .bodies) (b .unitStarts) (b .dStarts) (b .places) → Exact a b
+all-exact a b outputs plan numbers = record {
+  order = outputs .of-order;
+  parents = outputs .of-parents;
+  lStarts = outputs .of-l-starts;
+  diag = outputs .of-diag;
+  d = outputs .of-d;
+  column = numbers .of-column;
+  inverse = plan .of-inverse;
+  sizes = plan .of-sizes;
+  count = plan .of-count;
+  heads = plan .of-heads;
+  into = plan .of-into;
+  stamps = plan .of-stamps;
+  table = plan .of-table;
+  upper = plan .of-upper;
+  bodies = numbers .of-bodies;
+  unitStarts = numbers .of-unit-starts;
+  dStarts = numbers .of-d-starts;
+  places = numbers .of-places;
+}
