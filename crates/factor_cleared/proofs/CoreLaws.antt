@@ -43,7 +43,7 @@ use Rattle.factor_core.specs.Written.{Written}
 use Rattle.factor_core.proofs.StopLaws.{accepted-run}
 
 -- nothing stands beyond an exact need
-exact : {A : Type 0} (n : ℕ) (xs new : List A) → length xs ≡ n → new ≡ new ++ drop n xs
+pub exact : {A : Type 0} (n : ℕ) (xs new : List A) → length xs ≡ n → new ≡ new ++ drop n xs
 exact n xs new e = let h : length xs ≤ n = omega arith in sym (ap (λ (l : List _). new ++ l) (drop-of-length-le xs h) ∙ append-nil new)
 
 -- the same, under a verdict
@@ -94,6 +94,7 @@ module _ (a : System) where
         path-rule = λ k i h.
             subst (λ (l : List ℕ). T (elem i l) ↔ ((i < blocks a) × Stored (links a) k i)) (sym (table-rows k h rest))
             (whole-in (a .starts) (a .rows) (order a) (blocks a) .path-rule k i h);
+        listed = λ k h. table-rows k h rest ∙ sym (run-rows a s ran k);
       }
 
 -- ---- the promise

@@ -1,4 +1,5 @@
-// The factorization where the night's tables have passed and each buffer but L's has exactly its need, its scratch cleared at the end.
+// The factorization where the night's tables have passed and each buffer but L's rows, offsets and values has exactly its
+// need, its scratch cleared at the end.
 use factor_core::Factorized;
 use factor_core::core::fit;
 ghost use mathlib.Core.Path.{_≡_};

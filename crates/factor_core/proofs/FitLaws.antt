@@ -54,8 +54,8 @@ pub told-needs : (o v r : ℕ) {s s′ m m′ : ℕ} → s ≡ s′ → m ≡ m�
 told-needs o v r {s} {s′} {m} {m′} es em = ap (λ (k : ℕ). verdict (needChecks (planNeeds o v r k m))) es ∙ ap (λ (k : ℕ). verdict (needChecks (planNeeds o v r s′ k))) em
 
 -- a front that was changed in place leaves the length
-pub join-length : {A : Type 0} (n : ℕ) (xs ys : List A) → n ≤ length xs → length ys ≡ length (take n xs) → length (ys ++ drop n xs) ≡ length xs
-join-length n xs ys le e =
+pub join-length : {A : Type 0} (n : ℕ) (xs ys : List A) → length ys ≡ length (take n xs) → length (ys ++ drop n xs) ≡ length xs
+join-length n xs ys e =
     length-append ys (drop n xs)
     ∙ (ap (λ (k : ℕ). k + length (drop n xs)) e ∙ (sym (length-append (take n xs) (drop n xs)) ∙ ap {A = List _} length (take-append-drop n xs)))
 

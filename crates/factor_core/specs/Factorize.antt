@@ -1,6 +1,6 @@
 -- What `factorize::factorize` answers, and what it leaves in every lent place, for any arguments. Assumes nothing.
 use Prim.Native.Nat.{ℕ, _+_, _-_, _<_}
-use mathlib.Core.Bool.{Bool, false}
+use mathlib.Core.Bool.{false}
 use mathlib.Core.List.{List, [], _∷_, _++_}
 use mathlib.Core.Logic.{_↔_}
 use mathlib.Core.Path.{_≡_}
@@ -20,7 +20,7 @@ use Rattle.elimination_tree.specs.Tree.{decode, parentsOf}
 use Rattle.scalars.specs.Scalars.{scalarCount}
 use Rattle.analysis.specs.declared.core.Counts.{Counts}
 use Rattle.machine.specs.System.{System, blocks, links, order}
-use Rattle.machine.specs.Machine.{State, Run, going, stopped, run}
+use Rattle.machine.specs.Machine.{State, rowsAt, Run, going, stopped, run}
 use Rattle.layout.specs.Layout.{unitsNeed, workNeed}
 use Rattle.factor_setup.specs.Exact.{stored, numbers, lStarts, lRows, lOffsets, valuesAfter, unitsAfter, pivotsAfter}
 use Rattle.factor_core.specs.declared.Factorized.{Factorized}
@@ -123,7 +123,8 @@ planList a b =
     ∷ record { which = 3; have = length (b .lRows); need = stored a }
     ∷ []
 
--- the verdict before the plan: 1 to 10 on the tables, then 11
+-- the verdict before the plan: 1 to 10 on what is handed in, then 11. 12 cannot arise: starts, values, permutation or flags of another
+-- length are 3, 7, 8 or 9
 unfoldable pub early : System → Places → Told
 early a b = verdictAfter (systemVerdict (a .dims) (a .starts) (a .rows) (a .values) (a .perm) (a .late) (a .tol)) (needChecks (firstList a b))
 
@@ -142,19 +143,25 @@ answered a (stopped t) = t
 abbrev pub cleared : ℕ → List ℕ → List ℕ
 cleared n xs = replicate n 0 ++ drop n xs
 
--- Demand 3, of the lent tables of an accepted factorization and the count that it reports.
+-- Demand 3, of the lent tables of an accepted factorization, L's starts and rows, and of the count that it reports.
 pub record Demand3 (a : System) (products : ℕ) (starts rows : List ℕ) : Type 0 where
   -- the machine's last state
   pub state : State
   pub accepts : run a ≡ going state
-  -- the count is the length of its list of triples, and the sum of c(c + 1)/2, c the rows of a column
+  -- the count is the length of its list of triples, and the sum of c(c + 1)/2, c the number of rows that the lent starts give a column
   pub worked : products ≡ length (state .done)
   pub summed : products ≡ sum (between 0 (blocks a)) (λ k. productsOf (at starts (k + 1) - at starts k))
-  -- column k has exactly the rows of the path rule
+  -- column k has exactly the rows of the path rule; past the last block a number is no block, though the links read it as one
   pub path-rule : (k i : ℕ) → k < blocks a → T (elem i (rowsIn starts rows k)) ↔ ((i < blocks a) × Stored (links a) k i)
+  -- which are those of the machine's column, in their order
+  pub listed : (k : ℕ) → k < blocks a → rowsIn starts rows k ≡ rowsAt state k
 
--- Under an early verdict v: outputs are as they were where the call refuses by 1 to 12, and scratch where v refuses; else L's tables are
--- the plan's, the numbers are the machine's, NaN in full after 13 and 14, and scratch is zeros. Places beyond a need are as they were.
+-- What is left under an early verdict v:
+--     v refuses                                  all is as it was
+--     only a need that the plan shows refuses    the outputs are as they were, scratch is zeros
+--     13 or 14                                   order, parents and L's tables are the plan's, the numbers are NaN in full, scratch is zeros
+--     accepted                                   the same tables, the numbers are those of the machine's last state, scratch is zeros
+-- Places beyond a need are as they were in every case.
 pub record Factors (v : Told) (a : System) (b : Places) (r : Factorized) (b′ : Places) : Type 0 where
   pub outcome : told r ≡ firstOf (whole v a b) (answered a (run a))
   -- the outputs
@@ -184,7 +191,7 @@ pub record Factors (v : Told) (a : System) (b : Places) (r : Factorized) (b′ :
   pub liu : refuses (whole v a b) ≡ false → (k : ℕ) → k < blocks a → Parent (links a) (blocks a) k (decode (at (b′ .parents) k))
   pub demand3 : (c : Counts) → r ≡ variant.Accepted c → Demand3 a (c .products) (b′ .lStarts) (b′ .lRows)
 
--- each buffer but those of L has exactly what it needs
+-- each buffer but L's rows, offsets and values has exactly what it needs
 pub record Exact (a : System) (b : Places) : Type 0 where
   pub order : length (b .order) ≡ blocks a
   pub parents : length (b .parents) ≡ blocks a

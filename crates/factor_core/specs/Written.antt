@@ -29,7 +29,7 @@ planNeeds offsets values rows stored numbers =
     ∷ record { which = 3; have = rows; need = stored }
     ∷ []
 
--- The outputs, where each but L's has exactly its need: as they were where a need that only the plan shows is not met, else the factor's.
+-- The outputs, where each but L's rows, offsets and values has exactly its need: as they were where a need that only the plan shows is not met, else the factor's.
 pub record Written (a : System) (b : Places) (r : Factorized) (b′ : Places) : Type 0 where
   pub outcome : told r ≡ firstOf (whole done a b) (answered a (run a))
   pub order : b′ .order ≡ after (whole done a b) (b .order) (order a)

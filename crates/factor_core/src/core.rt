@@ -1,4 +1,4 @@
-// The factorization where the night's tables have passed and each buffer but L's has exactly its need.
+// The factorization where the night's tables have passed and each buffer but L's rows, offsets and values has exactly its need.
 use crate::Factorized;
 use analysis::core::Counts;
 use factor_columns::core::Worked;

@@ -25,6 +25,8 @@ use Rattle.machine.specs.System.{System, blocks, links, order}
 use Rattle.machine.specs.Machine.{run}
 use Rattle.layout.specs.Layout.{unitsNeed, workNeed}
 use Rattle.factor_setup.specs.Exact.{lStarts, unitsAfter, pivotsAfter}
+use Rattle.factor_core.proofs.FitLaws.{join-length}
+use Rattle.factor_cleared.proofs.CoreLaws.{exact}
 use Rattle.factor_core.specs.Factorize.{Places, whole, Demand3, Factors, Exact}
 use Rattle.factor_core.specs.declared.Factorized.{Factorized}
 use Rattle.factor_lent.specs.Room.{Enough, Exactly, Outputs, PlanScratch, NumberScratch}
@@ -39,137 +41,13 @@ fits e le = omega arith
 pub cut-length : {A : Type 0} (n : ℕ) {need : ℕ} (xs : List A) → n ≡ need → need ≤ length xs → length (take n xs) ≡ need
 cut-length n xs e le = length-take-le n xs (fits e le) ∙ e
 
--- a front that was changed in place leaves the length
-pub join-length : {A : Type 0} (n : ℕ) (xs ys : List A) → length ys ≡ length (take n xs) → length (ys ++ drop n xs) ≡ length xs
-join-length {A} n xs ys e = length-append ys (drop n xs) ∙ (ap (λ (k : ℕ). k + length (drop n xs)) e ∙ (sym (length-append (take n xs) (drop n xs)) ∙ ap {A = List A} length (take-append-drop n xs)))
-
--- in a buffer that has exactly its need, nothing stands beyond
-exact : {A : Type 0} (n : ℕ) (xs new : List A) → length xs ≡ n → new ≡ new ++ drop n xs
-exact {A} n xs new e = let h : length xs ≤ n = omega arith in sym (ap (λ (l : List A). new ++ l) (drop-of-length-le xs h) ∙ append-nil new)
-
 -- what stands in the first places, and beyond
-lifted : {A : Type 0} (w : Told) (n need : ℕ) (xs new ys : List A) → n ≡ need → need ≤ length xs → ys ≡ after w (take n xs) (new ++ drop need (take n xs)) → ys ++ drop n xs ≡ after w xs (new ++ drop need xs)
+pub lifted : {A : Type 0} (w : Told) (n need : ℕ) (xs new ys : List A) → n ≡ need → need ≤ length xs → ys ≡ after w (take n xs) (new ++ drop need (take n xs)) → ys ++ drop n xs ≡ after w xs (new ++ drop need xs)
 lifted {A} w n need xs new ys e le is = by-case (refuses w) is
   where
     by-case : (t : Bool) → ys ≡ cond t (take n xs) (new ++ drop need (take n xs)) → ys ++ drop n xs ≡ cond t xs (new ++ drop need xs)
     by-case true is = ap (λ (l : List A). l ++ drop n xs) is ∙ take-append-drop n xs
     by-case false is = ap₂ (λ (l : List A) (k : ℕ). l ++ drop k xs) (is ∙ sym (exact need (take n xs) new (cut-length n xs e le))) e
-
--- demand 3 reads no place beyond the n + 1 column starts
-demand3-joined : (a : System) (products : ℕ) (starts rest rows : List ℕ) → length starts ≡ blocks a + 1 → Demand3 a products starts rows → Demand3 a products (starts ++ rest) rows
-demand3-joined a products starts rest rows long g =
-    record {
-      state = g .state;
-      accepts = g .accepts;
-      worked = g .worked;
-      summed = g .summed ∙ sum-ext (between 0 (blocks a)) (λ k. productsOf (at starts (k + 1) - at starts k)) (λ k. productsOf (at (starts ++ rest) (k + 1) - at (starts ++ rest) k)) (λ k m. same-product k (between-elim k 0 (blocks a) m .1));
-      path-rule = λ k i h. subst (λ (l : List ℕ). T (elem i l) ↔ ((i < blocks a) × Stored (links a) k i)) (sym (same-rows k h)) (g .path-rule k i h);
-    }
-  where
-    same : (k : ℕ) → k < blocks a + 1 → at (starts ++ rest) k ≡ at starts k
-    same k h = front starts rest k (subst (λ (m : ℕ). k < m) (sym long) h)
-
-    same-product : (k : ℕ) → k < blocks a → productsOf (at starts (k + 1) - at starts k) ≡ productsOf (at (starts ++ rest) (k + 1) - at (starts ++ rest) k)
-    same-product k h = ap productsOf (ap₂ _-_ (sym (same (k + 1) (omega arith))) (sym (same k (omega arith))))
-
-    same-rows : (k : ℕ) → k < blocks a → rowsIn (starts ++ rest) rows k ≡ rowsIn starts rows k
-    same-rows k h = ap₂ (λ (x y : ℕ). slice x y rows) (same k (omega arith)) (same (k + 1) (omega arith))
-
--- ---- the outputs but those of L
-
--- each cut to its need
-abbrev pub cutOutputs : System → (units scalars : ℕ) → Places → Places
-cutOutputs a units scalars b = record {
-  order = take (blocks a) (b .order);
-  parents = take (blocks a) (b .parents);
-  lStarts = take (blocks a + 1) (b .lStarts);
-  lRows = b .lRows;
-  lOffsets = b .lOffsets;
-  lValues = b .lValues;
-  diag = take units (b .diag);
-  d = take scalars (b .d);
-  column = b .column;
-  inverse = b .inverse;
-  sizes = b .sizes;
-  count = b .count;
-  heads = b .heads;
-  into = b .into;
-  stamps = b .stamps;
-  table = b .table;
-  upper = b .upper;
-  bodies = b .bodies;
-  unitStarts = b .unitStarts;
-  dStarts = b .dStarts;
-  places = b .places;
-}
-
--- what stands beyond joined to c
-abbrev pub joinOutputs : System → (units scalars : ℕ) → (b c : Places) → Places
-joinOutputs a units scalars b c = record {
-  order = c .order ++ drop (blocks a) (b .order);
-  parents = c .parents ++ drop (blocks a) (b .parents);
-  lStarts = c .lStarts ++ drop (blocks a + 1) (b .lStarts);
-  lRows = c .lRows;
-  lOffsets = c .lOffsets;
-  lValues = c .lValues;
-  diag = c .diag ++ drop units (b .diag);
-  d = c .d ++ drop scalars (b .d);
-  column = c .column;
-  inverse = c .inverse;
-  sizes = c .sizes;
-  count = c .count;
-  heads = c .heads;
-  into = c .into;
-  stamps = c .stamps;
-  table = c .table;
-  upper = c .upper;
-  bodies = c .bodies;
-  unitStarts = c .unitStarts;
-  dStarts = c .dStarts;
-  places = c .places;
-}
-
-module _ (a : System) (units scalars : ℕ) (b : Places) where
-  pub outputs-exact : units ≡ unitsNeed (a .dims) → scalars ≡ scalarCount (a .dims) → Outputs Enough a (b .order) (b .parents) (b .lStarts) (b .diag) (b .d) → Outputs Exactly a (take (blocks a) (b .order)) (take (blocks a) (b .parents)) (take (blocks a + 1) (b .lStarts)) (take units (b .diag)) (take scalars (b .d))
-  outputs-exact units-is scalars-is m = record {
-    of-order = cut-length (blocks a) (b .order) refl (m .of-order);
-    of-parents = cut-length (blocks a) (b .parents) refl (m .of-parents);
-    of-l-starts = cut-length (blocks a + 1) (b .lStarts) refl (m .of-l-starts);
-    of-diag = cut-length units (b .diag) units-is (m .of-diag);
-    of-d = cut-length scalars (b .d) scalars-is (m .of-d);
-  }
-
-  -- a factorization in what is cut is one in the whole
-  pub outputs-lengthened : (c : Places) (r : Factorized) → units ≡ unitsNeed (a .dims) → scalars ≡ scalarCount (a .dims) → Outputs Enough a (b .order) (b .parents) (b .lStarts) (b .diag) (b .d)
-      → length (c .parents) ≡ length (take (blocks a) (b .parents)) → length (c .lStarts) ≡ length (take (blocks a + 1) (b .lStarts))
-      → Factors done a (cutOutputs a units scalars b) r c → Factors done a b r (joinOutputs a units scalars b c)
-  unfolding whole
-  outputs-lengthened c r units-is scalars-is m parents-kept starts-kept q = record {
-    outcome = q .outcome;
-    order = lifted (whole done a b) (blocks a) (blocks a) (b .order) (order a) (c .order) refl (m .of-order) (q .order);
-    parents = lifted (whole done a b) (blocks a) (blocks a) (b .parents) (parentsOf (links a) (blocks a)) (c .parents) refl (m .of-parents) (q .parents);
-    lStarts = lifted (whole done a b) (blocks a + 1) (blocks a + 1) (b .lStarts) (lStarts a) (c .lStarts) refl (m .of-l-starts) (q .lStarts);
-    lRows = q .lRows;
-    lOffsets = q .lOffsets;
-    lValues = q .lValues;
-    diag = lifted (whole done a b) units (unitsNeed (a .dims)) (b .diag) (unitsAfter a (run a)) (c .diag) units-is (m .of-diag) (q .diag);
-    d = lifted (whole done a b) scalars (scalarCount (a .dims)) (b .d) (pivotsAfter a (run a)) (c .d) scalars-is (m .of-d) (q .d);
-    column = q .column;
-    inverse = q .inverse;
-    sizes = q .sizes;
-    count = q .count;
-    heads = q .heads;
-    into = q .into;
-    stamps = q .stamps;
-    table = q .table;
-    upper = q .upper;
-    bodies = q .bodies;
-    unitStarts = q .unitStarts;
-    dStarts = q .dStarts;
-    places = q .places;
-    liu = λ passes k h. subst (λ (p : ℕ). Parent (links a) (blocks a) k (decode p)) (sym (front (c .parents) (drop (blocks a) (b .parents)) k (subst (λ (l : ℕ). k < l) (sym (parents-kept ∙ length-take-le (blocks a) (b .parents) (m .of-parents))) h))) (q .liu passes k h);
-    demand3 = λ counts is. demand3-joined a (counts .products) (c .lStarts) (drop (blocks a + 1) (b .lStarts)) (c .lRows) (starts-kept ∙ length-take-le (blocks a + 1) (b .lStarts) (m .of-l-starts)) (q .demand3 counts is);
-  }
 
 -- ---- the scratch of the plan
 

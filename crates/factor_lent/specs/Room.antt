@@ -15,7 +15,7 @@ Enough need have = need ≤ have
 abbrev pub Exactly : (need have : ℕ) → Type 0
 Exactly need have = have ≡ need
 
--- the outputs but those of L
+-- the outputs but L's rows, offsets and values
 pub record Outputs (R : ℕ → ℕ → Type 0) (a : System) (order parents lStarts : List ℕ) (diag d : List Float) : Type 0 where
   pub of-order : R (blocks a) (length order)
   pub of-parents : R (blocks a) (length parents)

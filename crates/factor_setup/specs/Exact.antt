@@ -1,4 +1,4 @@
--- A factor in lists that have exactly its tables and numbers: what each holds, for the system that the factor is made from. Assumes nothing.
+-- A factor in lists exactly as long as its tables and numbers: what each holds, for the system that the factor is made from. Assumes nothing.
 use Prim.Native.Nat.{ℕ, _+_}
 use mathlib.Core.List.{List}
 use mathlib.Core.Path.{_≡_}

@@ -2,8 +2,8 @@
 // column, in the first places of what is lent.
 use checks::System;
 use checks::check_system;
-use factor_core::Factorized;
-use factor_lent::core::lend;
+pub use factor_core::Factorized;
+use factor_outputs::core::lend;
 use needs::Room;
 use needs::first_short;
 ghost use Rattle.refusal.specs.Refusal.{verdict};
@@ -14,10 +14,10 @@ ghost use Rattle.factor_core.specs.Factorize.{lent, Factors, firstList, early};
 
 // The factor L D Lᵀ of A under the permutation after the late move, n = dims.len() blocks with m = rows.len() stored.
 //
-// Handed in: `dims`, the dimension of each block; `starts`, `rows` and `values`, A from the diagonal down, column after column;
-// `perm`, the old number of each new one; `late`, a flag 0 or 1 for each block; `tol`, the tolerance of a pivot.
+// Handed in: `dims`, the dimension of each block; `starts`, `rows` and `values`, A from the diagonal down, column after column, each body
+// column-major; `perm`, the old number of each new one; `late`, a flag 0 or 1 for each block; `tol`, the relative tolerance of a pivot.
 //
-// Outputs, each with its need:
+// Outputs, by new number, bodies column-major, each with its need:
 // - `order`, the permutation after the late move (n).
 // - `parents`, the elimination tree (n; none is 4,294,967,295).
 // - `l_starts` (n + 1) and `l_rows` (L's blocks), the rows of L below the diagonal, column after column, ascending.

@@ -33,7 +33,7 @@ pub advanced-length : (ks next : List ℕ) → length (advanced ks next) ≡ len
 advanced-length [] next = refl
 advanced-length (k ∷ ks) next = advanced-length ks (set next k (at next k + 1)) ∙ length-set next k (at next k + 1)
 
-advanced-other : (ks next : List ℕ) (k : ℕ) → (T (elem k ks) → ⊥) → at (advanced ks next) k ≡ at next k
+pub advanced-other : (ks next : List ℕ) (k : ℕ) → (T (elem k ks) → ⊥) → at (advanced ks next) k ≡ at next k
 advanced-other [] next k h = refl
 advanced-other (x ∷ ks) next k h =
     advanced-other ks (set next x (at next x + 1)) k (λ m. h (elem-tail k x ks m))

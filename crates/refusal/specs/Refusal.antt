@@ -117,6 +117,6 @@ verdictAfter before (check ∷ checks) = verdictAfter (firstOf before check) che
 abbrev pub verdict : List Told → Told
 verdict checks = verdictAfter done checks
 
--- a lent place after a call that refuses by 1 to 12 alone: as it was where the call refuses, else the new contents
+-- a lent place under a verdict of 1 to 12: as it was where that refuses, else the new contents
 abbrev pub after : {A : Type 0} → Told → A → A → A
 after v old new = cond (refuses v) old new

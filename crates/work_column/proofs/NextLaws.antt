@@ -2,7 +2,7 @@
 --     less-there    the elements less than j are as many as the place of j
 --     less-more     one more of them are less than j + 1 where j is one of the list
 --     from-there    from that place on the list has j, then all that are greater
---     advanced-own, advanced-other    a place listed goes one further, another stays
+--     advanced-own    a place listed goes one further
 -- Assumes nothing.
 use Prim.Native.Nat.{ℕ, suc, _+_, _<_}
 use mathlib.Core.Bool.{Bool}
@@ -18,6 +18,7 @@ use Rattle.graph.proofs.SetLaws.{decide, true-of, false-of, elem-cases, elem-he
 use Rattle.graph.proofs.SumLaws.{filter-all}
 use Rattle.tables.specs.Verdict.{at}
 use Rattle.reach_products.specs.Reach.{advanced}
+use Rattle.reach_products.proofs.ReachLaws.{advanced-other}
 
 -- how many elements are less than j
 abbrev pub less : ℕ → List ℕ → ℕ
@@ -105,12 +106,6 @@ from-there j (x ∷ l) inc m = ⊎-elim here (λ m′. there m′ (from-there j 
         ∙ ap (λ (b : Bool). j ∷ keep b x (filter (λ i. ltb j i) l)) (sym (false-of (ltb j x) (λ t. let q : j < x = ltb→lt j x t in omega arith)))
 
 -- ---- the next places, one further
-
-pub advanced-other : (ks next : List ℕ) (k : ℕ) → (T (elem k ks) → ⊥) → at (advanced ks next) k ≡ at next k
-advanced-other [] next k h = refl
-advanced-other (x ∷ ks) next k h =
-    advanced-other ks (set next x (at next x + 1)) k (λ m. h (elem-tail k x ks m))
-    ∙ getD-set-other next x k (at next x + 1) 0 (λ e. h (or-left (eqb k x) (elem k ks) (eqb-of e)))
 
 pub advanced-own : (ks next : List ℕ) (k : ℕ) → Uniq ks → T (elem k ks) → k < length next → at (advanced ks next) k ≡ at next k + 1
 advanced-own [] next k u m h = absurd m

@@ -36,11 +36,11 @@ use Rattle.block_product.specs.Working.{slot, Shows}
 use Rattle.block_product.proofs.SlotLaws.{at-slot, slot-length}
 use Rattle.column_products.specs.Columns.{Plan, Holds, PlacesFit, FactorsFit}
 use Rattle.reach_products.specs.Reach.{advanced, rowsFrom, reachTriples, ReachFit, ReachProducts}
-use Rattle.reach_products.proofs.ReachLaws.{advanced-length}
+use Rattle.reach_products.proofs.ReachLaws.{advanced-length, advanced-other}
 use Rattle.layout.specs.Layout.{Tables, side, startOf, stopOf, rowsAt, onAt, planAt, RowsLaid, DiagonalLaid, Placed}
 use Rattle.layout.proofs.RowLaws.{apart, on-inside}
 use Rattle.work_column.specs.Work.{nextOf, Next, Works}
-use Rattle.work_column.proofs.NextLaws.{less, less-there, less-more, less-same, from-there, advanced-own, advanced-other}
+use Rattle.work_column.proofs.NextLaws.{less, less-there, less-more, less-same, from-there, advanced-own}
 
 -- what stands in a part from place m of it on
 drop-slot : (l : List ℕ) (off m r : ℕ) → off + m + r ≤ length l → drop m (slot off (m + r) l) ≡ slot (off + m) r l

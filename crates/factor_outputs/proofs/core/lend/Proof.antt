@@ -1,4 +1,4 @@
--- `factor_lent::core::lend` meets its contract: the factorization in the first places of the outputs. Assumes nothing.
+-- `factor_outputs::core::lend` meets its contract: the factorization in the first places of the outputs. Assumes nothing.
 use Prim.Native.Nat.{_+_, _≤_}
 use mathlib.Core.Path.{sym}
 use native.Mathlib.Omega.{arith}
@@ -7,9 +7,11 @@ use lib.Seq.{length-take-le}
 use Rattle.machine.specs.System.{System}
 use Rattle.factor_setup.specs.Exact.{system}
 use Rattle.factor_core.specs.Factorize.{Places, lent}
-use Rattle.factor_lent.proofs.Laws.{fits, join-length, outputs-exact, outputs-lengthened}
-use Rattle.factor_lent.proofs.core.lend.Statement.{statement}
-use Rattle.factor_lent.proofs.core.lend.Tie as tie
+use Rattle.factor_core.proofs.FitLaws.{join-length}
+use Rattle.factor_lent.proofs.Laws.{fits}
+use Rattle.factor_outputs.proofs.Laws.{outputs-exact, outputs-lengthened}
+use Rattle.factor_outputs.proofs.core.lend.Statement.{statement}
+use Rattle.factor_outputs.proofs.core.lend.Tie as tie
 
 -- what is handed in and lent
 abbrev the-system : tie.Start → System
@@ -127,7 +129,7 @@ returns : tie.Need-returns
 returns c =
     let start = c .before .before .before .before .before .before .before .before .before .before .before .before .before .before .before .before .before .before .before .before .before .before .before .before .before .before .before .before .before .before .before .before .before .before .before .before .before .before .before .before .before .before .before .before .before .before .before .before .before .before .before .before .before .before .before .before .before .before .before .before .before .before .before .before .before .before .before .before .before .before .before .before .before .before .before .before .before .before .before .before .before .before .before .before .before .before .before .before .before .before .before .before .before in
     let call = c .before .before .before .before .before .before .before .before .before .before .before .before .before .before .before .before .before .before .before .before .before .before .before .before .before .before .before .before .before .before .before .before .before .before .before .before .before .before .before .before .before .before .lend-plan in
-    outputs-lengthened (the-system start) (c .before .before .before .before .before .before .before .before .before .before .before .before .before .before .before .before .before .before .before .before .before .before .before .before .before .before .before .before .before .before .before .before .before .before .before .before .before .before .before .before .before .before .before .before .before .before .before .before .before .before .before .before .before .before .before .before .before .before .before .before .before .before .before .before .before .unit-numbers .result) (c .before .before .before .before .before .before .before .before .before .before .before .before .before .before .before .before .before .before .before .before .before .before .before .before .before .before .before .before .before .before .before .before .before .before .before .before .before .before .before .before .before .before .before .before .before .before .before .before .before .before .before .before .before .before .before .before .before .before .before .before .before .before .before .before .scalars .result) (the-places start) _ (call .result) (c .before .before .before .before .before .before .before .before .before .before .before .before .before .before .before .before .before .before .before .before .before .before .before .before .before .before .before .before .before .before .before .before .before .before .before .before .before .before .before .before .before .before .before .before .before .before .before .before .before .before .before .before .before .before .before .before .before .before .before .before .before .before .before .before .before .unit-numbers .ensures) (c .before .before .before .before .before .before .before .before .before .before .before .before .before .before .before .before .before .before .before .before .before .before .before .before .before .before .before .before .before .before .before .before .before .before .before .before .before .before .before .before .before .before .before .before .before .before .before .before .before .before .before .before .before .before .before .before .before .before .before .before .before .before .before .before .scalars .ensures) (start .pre .1 .0) (call .kept .1 .1 .1 .1 .1 .1 .1 .1 .0) (call .kept .1 .1 .1 .1 .1 .1 .1 .1 .1 .0) (call .ensures)
+    outputs-lengthened (the-system start) (c .before .before .before .before .before .before .before .before .before .before .before .before .before .before .before .before .before .before .before .before .before .before .before .before .before .before .before .before .before .before .before .before .before .before .before .before .before .before .before .before .before .before .before .before .before .before .before .before .before .before .before .before .before .before .before .before .before .before .before .before .before .before .before .before .before .unit-numbers .result) (c .before .before .before .before .before .before .before .before .before .before .before .before .before .before .before .before .before .before .before .before .before .before .before .before .before .before .before .before .before .before .before .before .before .before .before .before .before .before .before .before .before .before .before .before .before .before .before .before .before .before .before .before .before .before .before .before .before .before .before .before .before .before .before .before .scalars .result) (the-places start) (lent (call .last .1 .1 .1 .1 .1 .1 .1 .0) (call .last .1 .1 .1 .1 .1 .1 .1 .1 .0) (call .last .1 .1 .1 .1 .1 .1 .1 .1 .1 .0) (call .last .1 .1 .1 .1 .1 .1 .1 .1 .1 .1 .0) (call .last .1 .1 .1 .1 .1 .1 .1 .1 .1 .1 .1 .0) (call .last .1 .1 .1 .1 .1 .1 .1 .1 .1 .1 .1 .1 .0) (call .last .1 .1 .1 .1 .1 .1 .1 .1 .1 .1 .1 .1 .1 .0) (call .last .1 .1 .1 .1 .1 .1 .1 .1 .1 .1 .1 .1 .1 .1 .0) (call .last .1 .1 .1 .1 .1 .1 .1 .1 .1 .1 .1 .1 .1 .1 .1 .0) (call .last .1 .1 .1 .1 .1 .1 .1 .1 .1 .1 .1 .1 .1 .1 .1 .1 .0) (call .last .1 .1 .1 .1 .1 .1 .1 .1 .1 .1 .1 .1 .1 .1 .1 .1 .1 .0) (call .last .1 .1 .1 .1 .1 .1 .1 .1 .1 .1 .1 .1 .1 .1 .1 .1 .1 .1 .0) (call .last .1 .1 .1 .1 .1 .1 .1 .1 .1 .1 .1 .1 .1 .1 .1 .1 .1 .1 .1 .0) (call .last .1 .1 .1 .1 .1 .1 .1 .1 .1 .1 .1 .1 .1 .1 .1 .1 .1 .1 .1 .1 .0) (call .last .1 .1 .1 .1 .1 .1 .1 .1 .1 .1 .1 .1 .1 .1 .1 .1 .1 .1 .1 .1 .1 .0) (call .last .1 .1 .1 .1 .1 .1 .1 .1 .1 .1 .1 .1 .1 .1 .1 .1 .1 .1 .1 .1 .1 .1 .0) (call .last .1 .1 .1 .1 .1 .1 .1 .1 .1 .1 .1 .1 .1 .1 .1 .1 .1 .1 .1 .1 .1 .1 .1 .0) (call .last .1 .1 .1 .1 .1 .1 .1 .1 .1 .1 .1 .1 .1 .1 .1 .1 .1 .1 .1 .1 .1 .1 .1 .1 .0) (call .last .1 .1 .1 .1 .1 .1 .1 .1 .1 .1 .1 .1 .1 .1 .1 .1 .1 .1 .1 .1 .1 .1 .1 .1 .1 .0) (call .last .1 .1 .1 .1 .1 .1 .1 .1 .1 .1 .1 .1 .1 .1 .1 .1 .1 .1 .1 .1 .1 .1 .1 .1 .1 .1 .0) (call .last .1 .1 .1 .1 .1 .1 .1 .1 .1 .1 .1 .1 .1 .1 .1 .1 .1 .1 .1 .1 .1 .1 .1 .1 .1 .1 .1 .0)) (call .result) (c .before .before .before .before .before .before .before .before .before .before .before .before .before .before .before .before .before .before .before .before .before .before .before .before .before .before .before .before .before .before .before .before .before .before .before .before .before .before .before .before .before .before .before .before .before .before .before .before .before .before .before .before .before .before .before .before .before .before .before .before .before .before .before .before .before .unit-numbers .ensures) (c .before .before .before .before .before .before .before .before .before .before .before .before .before .before .before .before .before .before .before .before .before .before .before .before .before .before .before .before .before .before .before .before .before .before .before .before .before .before .before .before .before .before .before .before .before .before .before .before .before .before .before .before .before .before .before .before .before .before .before .before .before .before .before .before .scalars .ensures) (start .pre .1 .0) (call .kept .1 .1 .1 .1 .1 .1 .1 .1 .0) (call .kept .1 .1 .1 .1 .1 .1 .1 .1 .1 .0) (call .ensures)
 
 pub lend-spec : {M : Type 1} → statement M
 lend-spec =
