@@ -85,7 +85,15 @@ fn tell(f: Factorized, told: &mut [u64; 3], value: &mut [f64; 1]) -> u32
     ensures { λ r. ⌜ (r ≡ refusal.number (core.told f)) × (now (told .exit) ≡ carried (core.told f)) × (now (value .exit) ≡ carriedFloat (core.told f)) ⌝ }
 {
     match f {
-        Factorized::Accepted(c) => carry(told, value, 0, c.stored as u64, c.numbers as u64, c.products, 0.0),
+        Factorized::Accepted(c) => carry(
+            told,
+            value,
+            0,
+            c.stored as u64,
+            c.numbers as u64,
+            c.products,
+            0.0,
+        ),
         Factorized::Blocks => carry(told, value, 1, 0, 0, 0, 0.0),
         Factorized::Dimension { place } => carry(told, value, 2, place as u64, 0, 0, 0.0),
         Factorized::Starts { place } => carry(told, value, 3, place as u64, 0, 0, 0.0),
@@ -96,9 +104,29 @@ fn tell(f: Factorized, told: &mut [u64; 3], value: &mut [f64; 1]) -> u32
         Factorized::Permutation { place } => carry(told, value, 8, place as u64, 0, 0, 0.0),
         Factorized::Late { place } => carry(told, value, 9, place as u64, 0, 0, 0.0),
         Factorized::Tolerance => carry(told, value, 10, 0, 0, 0, 0.0),
-        Factorized::Short { which, need } => carry(told, value, 11, which as u64, need as u64, 0, 0.0),
-        Factorized::NotFinite { block, place, pivot } => carry(told, value, 13, block as u64, place as u64, 0, pivot),
-        Factorized::Poor { block, condition } => carry(told, value, 14, block as u64, 0, 0, condition),
+        Factorized::Short { which, need } => carry(
+            told,
+            value,
+            11,
+            which as u64,
+            need as u64,
+            0,
+            0.0,
+        ),
+        Factorized::NotFinite {
+            block,
+            place,
+            pivot,
+        } => carry(told, value, 13, block as u64, place as u64, 0, pivot),
+        Factorized::Poor { block, condition } => carry(
+            told,
+            value,
+            14,
+            block as u64,
+            0,
+            0,
+            condition,
+        ),
     }
 }
 

@@ -16,10 +16,11 @@ tells-as :
     (f g : Factorized) → f ≡ g → (r : ℕ) (t : List ℕ) (v : List Float) →
     r ≡ number (core.told g) → t ≡ carried (core.told g) → v ≡ carriedFloat (core.told g) →
     (r ≡ number (core.told f)) × (t ≡ carried (core.told f)) × (v ≡ carriedFloat (core.told f))
-tells-as f g is r t v n indices float =
-    (n ∙ ap (λ (h : Factorized). number (core.told h)) (sym is),
-     indices ∙ ap (λ (h : Factorized). carried (core.told h)) (sym is),
-     float ∙ ap (λ (h : Factorized). carriedFloat (core.told h)) (sym is))
+tells-as f g is r t v n indices float = (
+  n ∙ ap (λ (h : Factorized). number (core.told h)) (sym is),
+  indices ∙ ap (λ (h : Factorized). carried (core.told h)) (sym is),
+  float ∙ ap (λ (h : Factorized). carriedFloat (core.told h)) (sym is),
+)
 
 accepted : tie.Need-returns
 accepted c = tells-as _ _ (c .before .before .before .before .f .given .1) _ _ _ (c .carry .ensures .0) (c .carry .ensures .1) (c .carry .ensures .2)
