@@ -7,7 +7,10 @@ use sophus_solver::{
     },
 };
 use std::hint::black_box;
-use std::time::Instant;
+
+#[path = "../nights.rs"]
+mod nights;
+use nights::{Draw, Night, dissect, tables, time};
 
 /// The best of so many rounds is told; a round of one of the three runs for at least so many nanoseconds.
 const ROUNDS: usize = 7;
@@ -28,44 +31,6 @@ unsafe extern "C" {
         heads: *mut u32, heads_len: usize, into: *mut u32, into_len: usize, stamps: *mut u32, stamps_len: usize,
         table: *mut u32, table_len: usize, upper: *mut u32, upper_len: usize, told: *mut [u64; 3],
     ) -> u32;
-}
-
-/// A pattern by its links, with the order in which its blocks are eliminated.
-struct Night {
-    name: &'static str,
-    n: usize,
-    links: Vec<(usize, usize)>,
-    perm: Vec<usize>,
-}
-
-/// splitmix64
-struct Draw(u64);
-
-impl Draw {
-    fn below(&mut self, n: usize) -> usize {
-        self.0 = self.0.wrapping_add(0x9E3779B97F4A7C15);
-        let z = (self.0 ^ (self.0 >> 30)).wrapping_mul(0xBF58476D1CE4E5B9);
-        let z = (z ^ (z >> 27)).wrapping_mul(0x94D049BB133111EB);
-        ((z ^ (z >> 31)) >> 11) as usize % n
-    }
-}
-
-/// The blocks of a part of a grid, halves first, then the line between them.
-fn dissect(x: std::ops::Range<usize>, y: std::ops::Range<usize>, width: usize, order: &mut Vec<usize>) {
-    let (w, h) = (x.len(), y.len());
-    if w * h <= 4 {
-        order.extend(y.flat_map(|j| x.clone().map(move |i| i + j * width)));
-    } else if w >= h {
-        let middle = x.start + w / 2;
-        dissect(x.start..middle, y.clone(), width, order);
-        dissect(middle + 1..x.end, y.clone(), width, order);
-        dissect(middle..middle + 1, y, width, order);
-    } else {
-        let middle = y.start + h / 2;
-        dissect(x.clone(), y.start..middle, width, order);
-        dissect(x.clone(), middle + 1..y.end, width, order);
-        dissect(x, middle..middle + 1, width, order);
-    }
 }
 
 fn nights(width: usize, height: usize) -> Vec<Night> {
@@ -91,21 +56,6 @@ fn nights(width: usize, height: usize) -> Vec<Night> {
         Night { name: "chain, drawn order", n, links: chain, perm: drawn },
         Night { name: "arrow, tip last", n, links: arrow, perm: natural },
     ]
-}
-
-/// The tables of A, every diagonal block stored.
-fn tables(night: &Night) -> (Vec<u32>, Vec<u32>) {
-    let mut columns: Vec<Vec<u32>> = (0..night.n as u32).map(|k| vec![k]).collect();
-    for &(a, b) in &night.links {
-        columns[a.min(b)].push(a.max(b) as u32);
-    }
-    let mut starts = vec![0];
-    for column in &mut columns {
-        column.sort_unstable();
-        column.dedup();
-        starts.push(starts[starts.len() - 1] + column.len() as u32);
-    }
-    (starts, columns.concat())
 }
 
 /// The same as the source's matrix: one partition.
@@ -168,15 +118,6 @@ fn ours(dims: &[u32], starts: &[u32], rows: &[u32], perm: &[u32], late: &[u32], 
             table.as_mut_ptr(), table.len(), upper.as_mut_ptr(), upper.len(), &mut lent.told,
         )
     }
-}
-
-/// Nanoseconds of one of so many calls.
-fn time(calls: usize, mut call: impl FnMut()) -> f64 {
-    let start = Instant::now();
-    for _ in 0..calls {
-        call();
-    }
-    start.elapsed().as_nanos() as f64 / calls as f64
 }
 
 fn compare(night: &Night) {
