@@ -1,4 +1,5 @@
 //! Times the source's factorization and the proved one beside each other, on the same matrices and orders, in one run.
+use nalgebra::{DMatrixView, DMatrixViewMut};
 use sophus_solver::{
     fell_back,
     ldlt::block_sparse_ldlt::{self, BlockSparseLdltFactor},
@@ -221,7 +222,19 @@ fn assert_same(name: &str, factor: &BlockSparseLdltFactor, lent: &Lent, dim: usi
     }
 }
 
-fn compare(night: &Night, dim: usize) {
+/// Nanoseconds of one call of the stand-in's `gemm` on blocks of this dimension.
+fn gemm(dim: usize) -> f64 {
+    let (a, b, mut q) = (vec![0.5; dim * dim], vec![0.25; dim * dim], vec![0.0; dim * dim]);
+    let once = || {
+        time(20_000, || {
+            let (a, b) = (DMatrixView::from_slice(black_box(&a), dim, dim), DMatrixView::from_slice(black_box(&b), dim, dim));
+            DMatrixViewMut::from_slice(black_box(&mut q), dim, dim).gemm(1.0, &a, &b, 0.0);
+        })
+    };
+    std::iter::repeat_with(once).take(ROUNDS).fold(f64::MAX, f64::min)
+}
+
+fn compare(night: &Night, dim: usize, gemm: f64) {
     let n = night.n;
     let (starts, rows) = tables(night);
     let values = values(n, dim, &starts, &rows);
@@ -274,19 +287,21 @@ fn compare(night: &Night, dim: usize) {
     }
     let [rust, proved] = best.map(|t| t / 1000.0);
     println!(
-        "| {} | {n} | {dim} | {stored} | {products} | {rust:.0} | {proved:.0} | {:.1} |",
+        "| {} | {n} | {dim} | {stored} | {products} | {rust:.0} | {:.0} | {proved:.0} | {:.1} |",
         night.name,
+        products as f64 * gemm / 1000.0,
         rust / proved
     );
 }
 
 fn main() {
-    println!("| pattern and order | blocks | dimension | in L | products | Rust | ours | Rust / ours |");
-    println!("|---|--:|--:|--:|--:|--:|--:|--:|");
+    println!("| pattern and order | blocks | dimension | in L | products | Rust | of it `gemm` | ours | Rust / ours |");
+    println!("|---|--:|--:|--:|--:|--:|--:|--:|--:|");
+    let gemms = DIMS.map(gemm);
     for (width, height) in SHAPES {
         for night in nights(width, height) {
-            for dim in DIMS {
-                compare(&night, dim);
+            for (dim, gemm) in DIMS.into_iter().zip(gemms) {
+                compare(&night, dim, gemm);
             }
         }
     }
