@@ -14,8 +14,8 @@ use std::hint::black_box;
 mod nights;
 use nights::{Draw, Night, dissect, tables, time};
 
-/// The best of at most so many rounds is told; a round of one of the two runs for at least so many nanoseconds, and no further round
-/// begins after so many.
+/// The best of so many rounds is told, with the first, which sets the calls of a round, where one call makes one; a round of one of the
+/// two runs for at least so many nanoseconds, and no further round begins after so many.
 const ROUNDS: usize = 7;
 const AT_LEAST: f64 = 3e6;
 const AT_MOST: f64 = 5e9;
