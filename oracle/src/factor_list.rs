@@ -4,6 +4,7 @@ use std::{collections::BTreeMap, fmt::Write};
 use crate::factor_cases::{KINDS, cases};
 use crate::factors::{Answer, Case, Fallbacks, needs, offsets, run};
 use crate::run::bits;
+use crate::table::table;
 
 const HEAD: usize = 45;
 
@@ -68,27 +69,7 @@ pub fn list() -> (Vec<u8>, String) {
     assert!(counts.keys().all(|k| numbers.contains(&k.1)));
     let of = |n: u32| counts.iter().filter(|(k, _)| k.1 == n).map(|(_, c)| c).sum::<usize>();
     assert!(numbers.iter().all(|&n| of(n) >= 2), "a number has no two cases");
-    let mut text = String::from("# Cases of crates/factors/stdin\n\nWritten by `oracle/build`.\n\n| kind | cases | accepted |");
-    for number in &numbers[1..] {
-        write!(text, " {number} |").unwrap();
-    }
-    text += "\n|---|--:|--:|";
-    text += &"--:|".repeat(numbers.len() - 1);
-    text += "\n";
-    let mut row = |name: &str, wanted: &dyn Fn(usize) -> bool| {
-        let count = |number: Option<u32>| -> usize {
-            counts.iter().filter(|(k, _)| wanted(k.0) && number.is_none_or(|n| n == k.1)).map(|(_, c)| c).sum()
-        };
-        write!(text, "| {name} | {} |", count(None)).unwrap();
-        for number in numbers {
-            write!(text, " {} |", count(Some(number))).unwrap();
-        }
-        text += "\n";
-    };
-    for (at, name) in KINDS.iter().enumerate() {
-        row(name, &|kind| kind == at + 1);
-    }
-    row("all", &|_| true);
+    let mut text = table("crates/factors/stdin", &KINDS, &numbers, &counts);
     let (values, blocks, scalars, stored, products) = most;
     writeln!(
         text,

@@ -7,6 +7,7 @@ mod plan_cases;
 mod plan_list;
 mod plans;
 mod run;
+mod table;
 mod values;
 
 use std::{collections::BTreeMap, fmt::Write, process::exit};

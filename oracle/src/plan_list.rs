@@ -3,6 +3,7 @@ use std::{collections::BTreeMap, fmt::Write};
 
 use crate::plan_cases::{KINDS, cases};
 use crate::plans::{Answer, Call, Case, Walks, run};
+use crate::table::table;
 
 const HEAD: usize = 27;
 
@@ -67,27 +68,7 @@ pub fn list() -> (Vec<u8>, String) {
 
     let numbers = [0, 1, 2, 3, 4, 5, 6, 7, 8, 9, 10, 11];
     assert!(numbers.iter().all(|&n| counts.keys().any(|k| k.1 == n)), "a number has no case");
-    let mut text = String::from("# Cases of crates/plans/stdin\n\nWritten by `oracle/build`.\n\n| kind | cases | accepted |");
-    for number in &numbers[1..] {
-        write!(text, " {number} |").unwrap();
-    }
-    text += "\n|---|--:|--:|";
-    text += &"--:|".repeat(numbers.len() - 1);
-    text += "\n";
-    let mut row = |name: &str, wanted: &dyn Fn(usize) -> bool| {
-        let count = |number: Option<u32>| -> usize {
-            counts.iter().filter(|(k, _)| wanted(k.0) && number.is_none_or(|n| n == k.1)).map(|(_, c)| c).sum()
-        };
-        write!(text, "| {name} | {} |", count(None)).unwrap();
-        for number in numbers {
-            write!(text, " {} |", count(Some(number))).unwrap();
-        }
-        text += "\n";
-    };
-    for (at, name) in KINDS.iter().enumerate() {
-        row(name, &|kind| kind == at + 1);
-    }
-    row("all", &|_| true);
+    let mut text = table("crates/plans/stdin", &KINDS, &numbers, &counts);
     let (blocks, stored, l_rows) = most;
     writeln!(text, "\nThe greatest plan has {blocks} blocks, {stored} stored blocks of A and {l_rows} of L.").unwrap();
     (bytes, text)
