@@ -1,0 +1,2 @@
+-- The laws behind the contracts.
+pub mod AreaLaws  -- the dimensions under the order of elimination
