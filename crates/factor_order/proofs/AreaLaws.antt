@@ -1,7 +1,6 @@
 -- The dimensions under the order of elimination measure a factor's blocks. Assumes nothing.
 use Prim.Native.Nat.{ℕ, _≤_, _<_}
 use mathlib.Core.List.{List}
-use mathlib.Core.Path.{_≡_}
 use native.Mathlib.Omega.{arith}
 use lib.ListN.{length}
 use Rattle.graph.specs.Order.{Permutes, moved}

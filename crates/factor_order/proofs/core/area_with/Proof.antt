@@ -1,11 +1,8 @@
 -- `factor_order::core::area_with` meets its contract. Assumes nothing.
-use mathlib.Core.Path.{sym, ap, _∙_}
-use native.Mathlib.Omega.{arith}
 use borrow.Author.Needs.{needs}
 use lib.ListN.{length}
 use Rattle.graph.specs.Order.{moved}
 use Rattle.graph.proofs.OrderLaws.{moved-permutes}
-use Rattle.order.specs.Order.{sizesOf}
 use Rattle.factor_order.proofs.AreaLaws.{measured-under, moved-below}
 use Rattle.factor_order.proofs.core.area_with.Statement.{statement}
 use Rattle.factor_order.proofs.core.area_with.Tie as tie
