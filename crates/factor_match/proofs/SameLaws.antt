@@ -1,10 +1,12 @@
 -- The answer is Same exactly where the factor's tables are those of the plan. Assumes nothing.
 --     same-tables   Same: the starts, the rows and the parents are those of the links
 --     tables-same   and back
+--     same-rule     Same in the words of the papers: each column has the rows of the path rule, each parent is the one that Liu defines
 use Prim.Native.Nat.{ℕ, zero, suc, _+_, _-_, _≤_, _<_, zero-le}
 use mathlib.Core.Bool.{Bool, true, false, cond, not, _||_}
 use mathlib.Core.List.{List, []}
-use mathlib.Core.Logic.{⊎-elim}
+use mathlib.Core.Logic.{_↔_, ⊎-elim}
+use mathlib.Core.Option.{Option}
 use mathlib.Core.Path.{_≡_, refl, sym, ap, subst, _∙_}
 use native.Mathlib.Numerals.{add-one}
 use native.Mathlib.Omega.{arith}
@@ -15,17 +17,19 @@ use lib.Seq.{getD-take, getD-drop, length-slice, ext-getD}
 use Rattle.graph.specs.Sets.{elem}
 use Rattle.graph.specs.Links.{rowsIn, linkedIn}
 use Rattle.graph.specs.Symbolic.{rows}
+use Rattle.graph.specs.Path.{Stored}
+use Rattle.graph.specs.Tree.{Parent}
 use Rattle.graph.specs.Liu.{treeParent}
 use Rattle.graph.proofs.SetLaws.{decide, is-false, inc-ext}
-use Rattle.graph.proofs.SymbolicLaws.{rows-ascending}
-use Rattle.graph.proofs.Whole.{linked-symm}
+use Rattle.graph.proofs.SymbolicLaws.{rows-iff, rows-ascending}
+use Rattle.graph.proofs.Whole.{whole, linked-symm}
 use Rattle.tables.specs.Search.{first}
 use Rattle.tables.specs.Verdict.{at, pastDiagonal}
 use Rattle.tables.specs.Sound.{Columns}
 use Rattle.tables.proofs.SearchLaws.{first-none}
 use Rattle.tables.proofs.ColumnLaws.{in-some}
-use Rattle.elimination_tree.specs.Tree.{code, parentsOf}
-use Rattle.elimination_tree.proofs.Links.{parents-length, parents-at}
+use Rattle.elimination_tree.specs.Tree.{code, decode, parentsOf}
+use Rattle.elimination_tree.proofs.Links.{parents-length, parents-at, parents-back}
 use Rattle.analysis.specs.Plan.{startsOf, rowsOf}
 use Rattle.layout.proofs.RowLaws.{rows-slot}
 use Rattle.layout.proofs.PlanLaws.{plan-columns, plan-rows}
@@ -128,6 +132,14 @@ module _ (linked : ℕ → ℕ → Bool) (n : ℕ) (symm : (a b : ℕ) → T (li
         sym (wrong-none linked n parents listed (λ k h.
         is-right linked n parents listed k (lacks-same (rows linked n k) (listed k) (sym (col k h))) (lacks-same (listed k) (rows linked n k) (col k h)) (ap (λ (x : List ℕ). at x k) c ∙ parents-at linked n symm k h)))
 
+    pub rule-of-same : n ≤ 4096 → firstWrong linked n parents (rowsIn lStarts lRows) ≡ kind.Same
+        → (k : ℕ) → k < n → ((i : ℕ) → T (elem i (rowsIn lStarts lRows k)) ↔ ((i < n) × Stored linked k i)) × Parent linked n k (decode (at parents k))
+    rule-of-same few e k h =
+        let right = right-rows k h (same-right (rowsIn lStarts lRows) e k h) in (
+          λ i. subst (λ (l : List ℕ). T (elem i l) ↔ ((i < n) × Stored linked k i)) (sym (right .0)) (rows-iff linked n symm k i h),
+          subst (λ (o : Option ℕ). Parent linked n k o) (sym (ap decode (right .1 ∙ sym (parents-at linked n symm k h)) ∙ parents-back linked n symm few k h)) (whole linked n symm .parents k h),
+        )
+
 -- ---- of A's tables and the order of elimination
 
 module _ (starts rows order parents lStarts lRows : List ℕ) (columns : Columns pastDiagonal (length order) lStarts lRows) where
@@ -138,3 +150,7 @@ module _ (starts rows order parents lStarts lRows : List ℕ) (columns : Columns
   pub tables-same : lStarts ≡ startsOf (linkedIn starts rows order) (length order) → lRows ≡ rowsOf (linkedIn starts rows order) (length order) → parents ≡ parentsOf (linkedIn starts rows order) (length order)
       → matchOf starts rows order parents lStarts lRows ≡ kind.Same
   tables-same = plan-same (linkedIn starts rows order) (length order) (linked-symm (rowsIn starts rows) order) parents lStarts lRows columns
+
+  pub same-rule : length order ≤ 4096 → matchOf starts rows order parents lStarts lRows ≡ kind.Same
+      → (k : ℕ) → k < length order → ((i : ℕ) → T (elem i (rowsIn lStarts lRows k)) ↔ ((i < length order) × Stored (linkedIn starts rows order) k i)) × Parent (linkedIn starts rows order) (length order) k (decode (at parents k))
+  same-rule = rule-of-same (linkedIn starts rows order) (length order) (linked-symm (rowsIn starts rows) order) parents lStarts lRows columns
