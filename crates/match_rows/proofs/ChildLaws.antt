@@ -95,10 +95,6 @@ module _ (listed : ℕ → List ℕ) (k : ℕ) where
   unfolding children
   children-first c e = rw e (ap (λ (l : List ℕ). c ∷ l) (children-latest c))
 
-  pub children-none : children listed k 0 ≡ []
-  unfolding children
-  children-none = refl
-
 -- ---- stamps
 
 pub stamps-append : (v : ℕ) (l m seen : List ℕ) → stamps v (l ++ m) seen ≡ stamps v m (stamps v l seen)

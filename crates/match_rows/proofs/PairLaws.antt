@@ -31,13 +31,6 @@ and-join false b t u = absurd t
 apart-test : (p q : ℕ) → (p ≡ q → ⊥) → T (not (eqb p q))
 apart-test p q h = rw (ne-eqb p q h) tt
 
-test-apart : (p q : ℕ) → T (not (eqb p q)) → p ≡ q → ⊥
-test-apart p q t e = never (eqb p q) t (eqb-of e)
-  where
-    never : (b : Bool) → T (not b) → T b → ⊥
-    never true s r = s
-    never false s r = r
-
 -- ---- the pairs
 
 -- of the stored block at place p of column c, by new number: none where it is on the diagonal
@@ -95,51 +88,42 @@ module _ (starts rows order inverse : List ℕ) (n : ℕ) (columns : Columns fro
             low-more g (max p q) (min p q) (omega arith) (omega (arith, bp .0, bq .0)) (link-of p q (at rows u) c (bp .1) (bq .1) d (b .0) (listed-at columns c h u lo hi))
             (λ i k s. ⊎-elim (λ z. inl z) (λ z. inr (z .1, z .2)) (back i k s))
 
+  -- the pair of two linked blocks is that of the stored block which links them
+  module _ (i k : ℕ) (l : k < i) (b : i < n) where
+    ne : at order i ≡ at order k → ⊥
+    ne e = let z : i ≡ k = sym (inv .there i b .1) ∙ ap (at inverse) e ∙ inv .there k (omega arith) .1 in omega arith
+
+    pairing : (at order i < at order k) ⊎ (at order k ≤ at order i) → (p : ℕ) → at rows p ≡ max (at order i) (at order k) → Stored rows inverse p (min (at order i) (at order k)) i k
+    pairing (inl s) p e =
+        let x : max (at order i) (at order k) ≡ at order k = omega arith in
+        let y : min (at order i) (at order k) ≡ at order i = omega arith in
+        let ei = inv .there i b .1 in
+        let ek = inv .there k (omega arith) .1 in
+        rw (e, x, y, ei, ek) (λ z. ne (sym z), omega arith, omega arith)
+    pairing (inr s) p e =
+        let x : max (at order i) (at order k) ≡ at order i = omega arith in
+        let y : min (at order i) (at order k) ≡ at order k = omega arith in
+        let ei = inv .there i b .1 in
+        let ek = inv .there k (omega arith) .1 in
+        rw (e, x, y, ei, ek) (λ z. ne z, omega arith, omega arith)
+
+    pass : T (linkedIn starts rows order i k) → Passed starts n (Stored rows inverse) (at starts n) i k
+    pass t =
+        let m = and-split (not (eqb i k)) (elem (max (at order i) (at order k)) (rowsIn starts rows (min (at order i) (at order k)))) t .1 in
+        let c = min (at order i) (at order k) in
+        let h : c < n = omega (arith, inv .there i b .0) in
+        let q = listed-place columns c h (max (at order i) (at order k)) m in
+        record {
+          place = q .0;
+          column = c;
+          earlier = omega (arith, q .2, starts-rise (columns .ordered) (c + 1) n (omega arith) (omega arith));
+          known = h;
+          inside = (q .1, q .2);
+          pair = pairing (lt-or-ge (at order i) (at order k)) (q .0) (q .3);
+        }
+
   pub storing-all : (r : ℕ) → Storing starts rows order inverse n listed (at starts n) r → Lowest (linkedIn starts rows order) listed n r
-  storing-all r g = low-all g (λ i k l b t. pass i k l b t)
-    where
-      pass : (i k : ℕ) → k < i → i < n → T (linkedIn starts rows order i k) → Passed starts n (Stored rows inverse) (at starts n) i k
-      pass i k l b t = by (lt-or-ge a d)
-        where
-          a : ℕ
-          a = at order i
-
-          d : ℕ
-          d = at order k
-
-          by : (at order i < at order k) ⊎ (at order k ≤ at order i) → Passed starts n (Stored rows inverse) (at starts n) i k
-          by s =
-              let m = and-split (not (eqb i k)) (elem (max (at order i) (at order k)) (rowsIn starts rows (min (at order i) (at order k)))) t .1 in
-              let ti = inv .there i b in
-              let tk = inv .there k (omega arith) in
-              let c = min (at order i) (at order k) in
-              let h : c < n = omega (arith, ti .0, tk .0) in
-              let q = listed-place columns c h (max (at order i) (at order k)) m in
-              record {
-                place = q .0;
-                column = c;
-                earlier = omega (arith, q .2, starts-rise (columns .ordered) (c + 1) n (omega arith) (omega arith));
-                known = h;
-                inside = (q .1, q .2);
-                pair = pairing s (q .0) (q .3);
-              }
-            where
-              ne : at order i ≡ at order k → ⊥
-              ne e = let z : i ≡ k = sym (inv .there i b .1) ∙ ap (at inverse) e ∙ inv .there k (omega arith) .1 in omega arith
-
-              pairing : (at order i < at order k) ⊎ (at order k ≤ at order i) → (p : ℕ) → at rows p ≡ max (at order i) (at order k) → Stored rows inverse p (min (at order i) (at order k)) i k
-              pairing (inl s) p e =
-                  let x : max (at order i) (at order k) ≡ at order k = omega arith in
-                  let y : min (at order i) (at order k) ≡ at order i = omega arith in
-                  let ei = inv .there i b .1 in
-                  let ek = inv .there k (omega arith) .1 in
-                  rw (e, x, y, ei, ek) (λ z. ne (sym z), omega arith, omega arith)
-              pairing (inr s) p e =
-                  let x : max (at order i) (at order k) ≡ at order i = omega arith in
-                  let y : min (at order i) (at order k) ≡ at order k = omega arith in
-                  let ei = inv .there i b .1 in
-                  let ek = inv .there k (omega arith) .1 in
-                  rw (e, x, y, ei, ek) (λ z. ne z, omega arith, omega arith)
+  storing-all r g = low-all g pass
 
 -- ---- the rows of a column and its first
 
