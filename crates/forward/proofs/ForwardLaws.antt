@@ -13,11 +13,12 @@ use Rattle.tables.specs.Verdict.{at}
 use Rattle.kernel_vector.specs.Vector.{subMatPlusVec}
 use Rattle.machine.specs.Machine.{Column}
 use Rattle.block_product.specs.Working.{slot}
+use Rattle.block_product.proofs.SlotLaws.{slot-length}
 use Rattle.layout.specs.Layout.{Tables, side, startOf, stopOf, RowsLaid}
 use Rattle.solution.specs.Solution.{Vector, through, forwardRow, forwardColumn, forward}
 use Rattle.solution.specs.Flat.{HoldsRows, BlocksLaid, ShowsVector}
-use Rattle.solution.proofs.RowLaws.{through-none, through-more}
-use Rattle.solution.proofs.VectorLaws.{shows-within, other-block}
+use Rattle.solution.proofs.RowLaws.{through-none, through-more, lost-length}
+use Rattle.solution.proofs.VectorLaws.{block-inside, shows-within, other-block}
 use Rattle.forward.specs.Forward.{Forwards, ForwardsColumn, ForwardsRows}
 
 module _ (t : Tables) (starts : List ℕ) (lValues : List Float) where
@@ -44,10 +45,9 @@ module _ (t : Tables) (starts : List ℕ) (lValues : List Float) where
 
     pub up-more : {v c : ℕ} (y y′ : List Float) (u : ℕ) → RowsLaid t n v c → BlocksLaid (t .sizes) starts (length y) → j < n → startOf t j ≤ u → u < stopOf t j
         → length own ≡ side t j
-        → length (subMatPlusVec (side t (at (t .lRows) u)) (length own) (slot (at starts (at (t .lRows) u)) (side t (at (t .lRows) u)) y) (slot (at (t .lOffsets) u) (side t (at (t .lRows) u) * length own) lValues) own) ≡ side t (at (t .lRows) u)
         → y′ ≡ within (at starts (at (t .lRows) u)) (side t (at (t .lRows) u)) (λ z. subMatPlusVec (side t (at (t .lRows) u)) (length own) z (slot (at (t .lOffsets) u) (side t (at (t .lRows) u) * length own) lValues) own) y
         → UpTo y u → UpTo y′ (u + 1)
-    up-more y y′ u rows laid h lo hi wide keeps e up col held x shown o =
+    up-more y y′ u rows laid h lo hi wide e up col held x shown o =
         let i = at (t .lRows) u in
         let r = rows .row j u h lo hi in
         let now = up col held x shown o in
@@ -58,8 +58,8 @@ module _ (t : Tables) (starts : List ℕ) (lValues : List Float) where
         ap (λ (w : ℕ). subMatPlusVec (side t i) w (was i) (slot (at (t .lOffsets) u) (side t i * w) lValues) own) wide
         ∙ ap (λ (b : List Float). subMatPlusVec (side t i) (side t j) (was i) b own) (held .bodies j u h lo hi)
         ∙ ap (subMatPlusVec (side t i) (side t j) (was i) (col j .body i)) (now .1) in
-        let done = shows-within y laid i f was (subMatPlusVec (side t i) (side t j) (was i) (col j .body i) (was j)) (r .1) keeps same (now .0) in
-        (
+        let keeps = lost-length (side t i) (length own) (slot (at starts i) (side t i) y) (slot (at (t .lOffsets) u) (side t i * length own) lValues) own ∙ slot-length y (at starts i) (side t i) (block-inside laid i (r .1)) in
+        let done = shows-within y laid i f was (subMatPlusVec (side t i) (side t j) (was i) (col j .body i) (was j)) (r .1) keeps same (now .0) in (
           subst (ShowsVector (t .sizes) starts y′) z (subst (λ (l : List Float). ShowsVector (t .sizes) starts l (forwardRow (side t) col j i was)) (sym e) done),
           subst (λ (v : Vector). own ≡ v j) z (now .1 ∙ sym (other-block i j _ was (λ q. absurd (omega arith)))),
         )
@@ -80,3 +80,6 @@ module _ (t : Tables) (starts : List ℕ) (lValues : List Float) where
   columns-more j y y′ y″ before one col held x shown =
       subst (ShowsVector (t .sizes) starts y″) (steps-more (forwardColumn (side t) col) j x (steps (forwardColumn (side t) col) j x) refl)
       (one col held (steps (forwardColumn (side t) col) j x) (before col held x shown))
+
+  pub columns-all : (m j : ℕ) (y y′ : List Float) → j ≡ m → Forwards t starts lValues j y y′ → Forwards t starts lValues m y y′
+  columns-all m j y y′ e all = subst (λ (k : ℕ). Forwards t starts lValues k y y′) e all

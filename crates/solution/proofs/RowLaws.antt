@@ -1,10 +1,14 @@
--- Rows one after the other: `through-none` where a loop over the rows of a column begins, `through-more` one row more. Assumes nothing.
-use Prim.Native.Nat.{ℕ, suc, _+_, _-_, _≤_, _<_}
+-- Rows one after the other: `through-none` where a loop over the rows of a column begins, `through-more` one row more; `lost-length`: a
+-- block is as long after a row. Assumes nothing.
+use Prim.Native.Nat.{ℕ, zero, suc, _+_, _-_, _≤_, _<_}
 use mathlib.Core.List.{List, [], _∷_, _++_}
 use mathlib.Core.Path.{_≡_, refl, ap, _∙_}
 use native.Mathlib.Omega.{arith}
-use lib.ListN.{length, take, drop, length-drop}
+use lib.Ieee.{Float}
+use lib.ListN.{length, drop, length-set, length-drop}
 use lib.Seq.{take-suc, getD-drop}
+use Rattle.scalar.specs.Loop.{steps}
+use Rattle.kernel_vector.specs.Vector.{subMatPlusVec}
 use Rattle.tables.specs.Verdict.{at}
 use Rattle.block_product.specs.Working.{slot}
 use Rattle.solution.specs.Solution.{through}
@@ -29,3 +33,14 @@ module _ {A : Type 0} (f : ℕ → A → A) where
 
   pub through-more : (l : List ℕ) (s u : ℕ) (a : A) → s ≤ u → u < length l → through f (slot s (u + 1 - s) l) a ≡ f (at l u) (through f (slot s (u - s) l) a)
   through-more l s u a lo hi = ap (λ (r : List ℕ). through f r a) (slot-more l s u lo hi) ∙ through-snoc (slot s (u - s) l) (at l u) a
+
+-- ---- lengths
+
+steps-length : (f : ℕ → List Float → List Float) → ((k : ℕ) (a : List Float) → length (f k a) ≡ length a) → (n : ℕ) (a : List Float) → length (steps f n a) ≡ length a
+unfolding steps
+steps-length f h zero a = refl
+steps-length f h (suc n) a = h n (steps f n a) ∙ steps-length f h n a
+
+pub lost-length : (m n : ℕ) (y a b : List Float) → length (subMatPlusVec m n y a b) ≡ length y
+unfolding subMatPlusVec
+lost-length m n y a b = steps-length _ (λ r y. length-set y _ _) m y

@@ -6,16 +6,18 @@
 --     shows-blocks       a flat list shows its own blocks
 --     shows-flat         the flat list is the vector's
 --     row-fits           what a row needs, from how the blocks lie
+--     held-long, held-back, held-all   the first numbers of a local array, written
 -- Assumes nothing.
 use Prim.Native.Nat.{ℕ, _+_, _*_, _≤_, _<_}
-use mathlib.Core.List.{List}
+use mathlib.Core.List.{List, _++_}
 use mathlib.Core.Logic.{_⊎_, inl, inr, ⊎-elim}
-use mathlib.Core.Path.{_≡_, sym, ap, subst, _∙_}
+use mathlib.Core.Path.{_≡_, ap, _∙_}
 use native.Mathlib.Decide.{decLt}
 use native.Mathlib.Omega.{arith}
 use lib.Dec.{T, eqb, eqb→eq, eqb-refl}
 use lib.Ieee.{Float}
-use lib.ListN.{length}
+use lib.ListN.{length, take, drop}
+use lib.Seq.{length-take-le, length-front, take-at}
 use Rattle.scalar.specs.Block.{within}
 use Rattle.graph.specs.Sets.{from, gather}
 use Rattle.graph.proofs.SetLaws.{decide, true-of, false-of, eqb-of, from-elim}
@@ -92,3 +94,15 @@ module _ (t : Tables) {starts : List ℕ} {values c m : ℕ} (rows : RowsLaid t 
         block = block-inside laid (at (t .lRows) u) (r .1);
         body = omega (arith, rows .body j u (length (t .lRows)) h lo hi (omega arith) (omega arith), rows .bodies);
       }
+
+-- ---- the first w numbers of a local array z are written: `own` stands there
+
+module _ (w : ℕ) (z own : List Float) (fits : w ≤ length z) (kept : length own ≡ length (take w z)) where
+  pub held-long : length own ≡ w
+  held-long = kept ∙ length-take-le w z fits
+
+  pub held-back : take w (own ++ drop w z) ≡ own
+  held-back = take-at own (drop w z) w held-long
+
+  pub held-all : length (own ++ drop w z) ≡ length z
+  held-all = length-front z own w kept
