@@ -1,105 +1,67 @@
--- `block_solves::core::solve_block` meets its contract. Assumes nothing.
+-- `block_solves::core::solve_block` meets its contract: the lent part is put back as the block's solve left it (`block-done`). Assumes nothing.
+use Prim.Native.Nat.{_+_, _*_, _≤_}
+use mathlib.Core.Path.{_≡_, sym, ap, subst, _∙_}
+use native.Mathlib.Nat.{add-sub-cancel-left}
+use native.Mathlib.Omega.{arith}
+use lib.ListN.{length}
+use denote.Ref.{now}
 use borrow.Author.Needs.{needs}
+use borrow.Rule.Slice.PartMut.{mid-len}
+use Rattle.scalar.proofs.Laws.{area-fits}
+use Rattle.tables.specs.Verdict.{at}
+use Rattle.solution.proofs.VectorLaws.{block-inside}
+use Rattle.block_solves.proofs.BlockLaws.{unit-next, unit-inside, pivots-inside, block-done}
 use Rattle.block_solves.proofs.core.solve_block.Statement.{statement}
 use Rattle.block_solves.proofs.core.solve_block.Tie as tie
 
-mul-w : tie.Need-mul-w
-mul-w c = search needs
-
-shared-slice-read-w : tie.Need-shared-slice-read-w
-shared-slice-read-w c = search needs
-
-cast-w : tie.Need-cast-w
-cast-w c = ?
-
-mul-s : tie.Need-mul-s
-mul-s c = search needs
-
-shared-slice-read-s : tie.Need-shared-slice-read-s
-shared-slice-read-s c = search needs
-
-cast-s : tie.Need-cast-s
-cast-s c = ?
-
-add-s-end : tie.Need-add-s-end
-add-s-end c = ?
-
-mul-unit-end : tie.Need-mul-unit-end
-mul-unit-end c = ?
-
-add-unit-end : tie.Need-add-unit-end
-add-unit-end c = ?
-
-mul-ldlt-solve-core : tie.Need-mul-ldlt-solve-core
-mul-ldlt-solve-core c = ?
-
-sub-ldlt-solve-core : tie.Need-sub-ldlt-solve-core
-sub-ldlt-solve-core c = search needs
-
-part-ldlt-solve-core-start : tie.Need-part-ldlt-solve-core-start
-part-ldlt-solve-core-start c = search needs
-
-part-ldlt-solve-core-end : tie.Need-part-ldlt-solve-core-end
-part-ldlt-solve-core-end c = ?
-
-mul-ldlt-solve-core-2 : tie.Need-mul-ldlt-solve-core-2
-mul-ldlt-solve-core-2 c = ?
-
-sub-ldlt-solve-core-2 : tie.Need-sub-ldlt-solve-core-2
-sub-ldlt-solve-core-2 c = search needs
-
-part-ldlt-solve-core-start-2 : tie.Need-part-ldlt-solve-core-start-2
-part-ldlt-solve-core-start-2 c = search needs
-
-part-ldlt-solve-core-end-2 : tie.Need-part-ldlt-solve-core-end-2
-part-ldlt-solve-core-end-2 c = ?
-
-mul-ldlt-solve-core-3 : tie.Need-mul-ldlt-solve-core-3
-mul-ldlt-solve-core-3 c = ?
-
-sub-ldlt-solve-core-3 : tie.Need-sub-ldlt-solve-core-3
-sub-ldlt-solve-core-3 c = search needs
-
-part-ldlt-solve-core-start-3 : tie.Need-part-ldlt-solve-core-start-3
-part-ldlt-solve-core-start-3 c = search needs
-
-part-ldlt-solve-core-end-3 : tie.Need-part-ldlt-solve-core-end-3
-part-ldlt-solve-core-end-3 c = ?
-
-ldlt-solve-core-requires : tie.Need-ldlt-solve-core-requires
-ldlt-solve-core-requires c κs = search needs
-
-same-length : tie.Need-same-length
-same-length c = search needs
+-- the block lies in y, its d in d, its unit factor in diag
+fits : (s : tie.Start) → let x = s .args in
+    let w = at (now (x .sizes)) (x .j) in
+    (at (now (x .starts)) (x .j) + w ≤ length (now (x .y))) × (at (now (x .starts)) (x .j) + w ≤ length (now (x .d))) × (x .unit + w * w ≤ length (now (x .diag))) × (w ≤ 16)
+fits s =
+    let x = s .args in
+    let h = s .pre .1 .0 in
+    (block-inside (s .pre .0 .2) (x .j) h, pivots-inside (s .pre .0 .1) (x .j) h, subst (λ u. u + at (now (x .sizes)) (x .j) * at (now (x .sizes)) (x .j) ≤ length (now (x .diag))) (sym (s .pre .1 .1)) (unit-inside (s .pre .0 .1) (x .j) h), s .pre .0 .2 .small (x .j) h)
 
 returns : tie.Need-returns
-returns c = ?
+returns c =
+    let s = c .before .before .before .before .before .before .before .before .before .before .before .before .before in
+    let x = s .args in
+    let b = c .before .before .ldlt-solve-core in
+    let o = at (now (x .starts)) (x .j) in
+    let w = at (now (x .sizes)) (x .j) in
+    let e = simp add-sub-cancel-left at (b .ensures) in (
+      ap (λ u. u + w * w) (s .pre .1 .1) ∙ unit-next (now (x .sizes)) (x .j) (s .pre .1 .0),
+      block-done (now (x .sizes)) (now (x .starts)) (now (x .diag)) (now (x .d)) (x .j) (x .unit) (now (x .y)) _ (s .pre .0 .0) (s .pre .0 .2) (s .pre .1 .0) (s .pre .1 .1)
+          (sym (ap length e) ∙ b .kept .1 .1 .1 .0 ∙ mid-len o (o + w) (now (x .y)) (fits s .0) ∙ add-sub-cancel-left _ _)
+          (rw (e, add-sub-cancel-left)),
+    )
 
 pub solve-block-spec : {M : Type 1} → statement M
 solve-block-spec =
     tie.close
     (tie.spec
-    mul-w
-    shared-slice-read-w
-    cast-w
-    mul-s
-    shared-slice-read-s
-    cast-s
-    add-s-end
-    mul-unit-end
-    add-unit-end
-    mul-ldlt-solve-core
-    sub-ldlt-solve-core
-    part-ldlt-solve-core-start
-    part-ldlt-solve-core-end
-    mul-ldlt-solve-core-2
-    sub-ldlt-solve-core-2
-    part-ldlt-solve-core-start-2
-    part-ldlt-solve-core-end-2
-    mul-ldlt-solve-core-3
-    sub-ldlt-solve-core-3
-    part-ldlt-solve-core-start-3
-    part-ldlt-solve-core-end-3
-    ldlt-solve-core-requires
-    same-length
+    (λ c. search needs)
+    (λ c. search needs)
+    (λ c. omega (arith, c .shared-slice-known5 .given (c .before .before .before .before .before .before .args .j)))
+    (λ c. search needs)
+    (λ c. search needs)
+    (λ c. omega (arith, c .shared-slice-known6 .given (c .before .before .before .before .before .before .before .args .j)))
+    (λ c. omega (arith, fits (c .before .before .before .before .before .before .before)))
+    (λ c. let s = c .before .before .before .before .before .before .before in area-fits _ _ (fits s .3, fits s .3))
+    (λ c. omega (arith, fits (c .before .before .before .before .before .before .before)))
+    (λ c. omega (arith, fits (c .before .before .before .before .before .before .before)))
+    (λ c. search needs)
+    (λ c. search needs)
+    (λ c. omega (arith, fits (c .before .before .before .before .before .before .before)))
+    (λ c. omega (arith, fits (c .before .before .before .before .before .before .before .before)))
+    (λ c. search needs)
+    (λ c. search needs)
+    (λ c. omega (arith, fits (c .before .before .before .before .before .before .before .before)))
+    (λ c. omega (arith, fits (c .before .before .before .before .before .before .before .before .before)))
+    (λ c. search needs)
+    (λ c. search needs)
+    (λ c. omega (arith, fits (c .before .before .before .before .before .before .before .before .before)))
+    (λ c κs. search needs)
+    (λ c. search needs)
     returns)
