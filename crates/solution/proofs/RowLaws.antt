@@ -1,5 +1,5 @@
--- Rows one after the other: `through-none` where a loop over the rows of a column begins, `through-more` one row more; `lost-length`: a
--- block is as long after a row. Assumes nothing.
+-- Rows one after the other: `through-none` where a loop over the rows of a column begins, `through-more` one row more; `steps-length` and
+-- `lost-length`: a list is as long after a loop, and a block after a row. Assumes nothing.
 use Prim.Native.Nat.{ℕ, zero, suc, _+_, _-_, _≤_, _<_}
 use mathlib.Core.List.{List, [], _∷_, _++_}
 use mathlib.Core.Path.{_≡_, refl, ap, _∙_}
@@ -36,7 +36,7 @@ module _ {A : Type 0} (f : ℕ → A → A) where
 
 -- ---- lengths
 
-steps-length : (f : ℕ → List Float → List Float) → ((k : ℕ) (a : List Float) → length (f k a) ≡ length a) → (n : ℕ) (a : List Float) → length (steps f n a) ≡ length a
+pub steps-length : (f : ℕ → List Float → List Float) → ((k : ℕ) (a : List Float) → length (f k a) ≡ length a) → (n : ℕ) (a : List Float) → length (steps f n a) ≡ length a
 unfolding steps
 steps-length f h zero a = refl
 steps-length f h (suc n) a = h n (steps f n a) ∙ steps-length f h n a
