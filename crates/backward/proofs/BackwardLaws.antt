@@ -8,7 +8,7 @@ use lib.Ieee.{Float}
 use lib.ListN.{length}
 use Rattle.scalar.specs.Loop.{steps}
 use Rattle.scalar.specs.Block.{within}
-use Rattle.scalar.proofs.Laws.{steps-none, steps-more, steps-all}
+use Rattle.scalar.proofs.Laws.{steps-none, steps-more}
 use Rattle.tables.specs.Verdict.{at}
 use Rattle.kernel_vector_transpose.specs.VectorTranspose.{subMatTransposePlusVec}
 use Rattle.machine.specs.Machine.{Column}

@@ -5,10 +5,9 @@ use mathlib.Core.List.{List}
 use mathlib.Core.Path.{_≡_}
 use lib.Ieee.{Float}
 use lib.ListN.{length}
-use Rattle.scalar.specs.Loop.{steps}
 use Rattle.machine.specs.Machine.{Column}
 use Rattle.layout.specs.Layout.{Tables, side}
-use Rattle.solution.specs.Solution.{Vector, through, backwardRow, backwardColumn, backwardTurn, backward}
+use Rattle.solution.specs.Solution.{Vector, through, backwardRow, backwardColumn, backward}
 use Rattle.solution.specs.Flat.{HoldsRows, ShowsVector}
 
 module _ (t : Tables) (starts : List ℕ) (lValues : List Float) where

@@ -13,12 +13,11 @@ use Rattle.tables.specs.Verdict.{at}
 use Rattle.scalars.specs.Scalars.{scalarStarts}
 use Rattle.scalars.proofs.ScalarLaws.{starts-at, nothing-before}
 use Rattle.dense_solve.specs.Solve.{ldltSolve}
-use Rattle.machine.specs.Machine.{Column}
 use Rattle.block_product.specs.Working.{slot}
 use Rattle.layout.specs.Layout.{squares, unitStartsOf, DiagonalLaid}
 use Rattle.layout.proofs.DiagonalLaws.{length-squares, squares-at}
-use Rattle.solution.specs.Solution.{Vector, solvedBlock, solvedBlocks}
-use Rattle.solution.specs.Flat.{HoldsFactors, BlocksLaid, ShowsVector}
+use Rattle.solution.specs.Solution.{solvedBlock, solvedBlocks}
+use Rattle.solution.specs.Flat.{BlocksLaid, ShowsVector}
 use Rattle.solution.proofs.VectorLaws.{shows-within}
 use Rattle.block_solves.specs.Blocks.{Solves, SolvesBlock}
 

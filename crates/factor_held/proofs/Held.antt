@@ -12,12 +12,11 @@ use lib.ListN.{length, take}
 use lib.Seq.{drop-cons}
 use Rattle.graph.specs.Sets.{from, gather}
 use Rattle.graph.specs.Sets as list
-use Rattle.graph.specs.Order.{Permutes}
 use Rattle.graph.proofs.OrderLaws.{moved-permutes}
 use Rattle.graph.proofs.SetLaws.{from-elim}
 use Rattle.buckets.proofs.Laws.{sum-snoc}
 use Rattle.buckets.proofs.Turns.{before-next}
-use Rattle.tables.specs.Verdict.{at, blockArea, areaAt, columnOf, pastDiagonal}
+use Rattle.tables.specs.Verdict.{at, areaAt, columnOf, pastDiagonal}
 use Rattle.tables.specs.Sound.{Columns, SystemSound}
 use Rattle.tables.proofs.ColumnLaws.{column-is, in-some}
 use Rattle.scalars.specs.Scalars.{scalarStarts}

@@ -1,5 +1,5 @@
 -- How long the kernels and the decomposition of a block leave their lists. Assumes nothing.
-use Prim.Native.Nat.{ℕ, zero, suc, _+_, _*_}
+use Prim.Native.Nat.{ℕ, zero, suc, _*_}
 use mathlib.Core.Bool.{Bool, true, false, cond}
 use mathlib.Core.List.{List, [], _∷_}
 use mathlib.Core.Path.{_≡_, refl, subst, _∙_}
@@ -22,7 +22,6 @@ use Rattle.dense_ldlt.specs.declared.core.Factored.the-variants as factored
 use Rattle.block_diag_ldlt.specs.Block.{isPoor, settle, blockLdlt}
 use Rattle.block_diag_ldlt.specs.declared.core.Settled.{Settled}
 use Rattle.block_diag_ldlt.specs.declared.core.Settled.the-variants as settled
-use Rattle.dense_pivots.specs.declared.LdltResult.{LdltResult}
 use Rattle.solution.proofs.RowLaws.{steps-length}
 
 pub product-length : (m n k : ℕ) (y a d b : List Float) → length (subMatDiagMatT m n k y a d b) ≡ length y

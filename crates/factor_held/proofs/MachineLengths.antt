@@ -1,11 +1,10 @@
 -- How long the machine's blocks are: `column-sized`, of every column of an accepted run. Assumes nothing.
-use Prim.Native.Nat.{ℕ, _+_, _*_, _≤_, _<_}
+use Prim.Native.Nat.{ℕ, _*_, _≤_, _<_}
 use mathlib.Core.List.{List, [], _∷_, map}
 use mathlib.Core.Logic.{⊎-elim}
-use mathlib.Core.Option.{Option, some}
 use mathlib.Core.Path.{_≡_, refl, sym, ap, subst, _∙_}
 use native.Mathlib.Omega.{arith}
-use lib.Dec.{T, eqb, ltb, eqb→eq, eqb-refl}
+use lib.Dec.{T, eqb, ltb, eqb→eq}
 use lib.Ieee.{Float}
 use lib.ListN.{length}
 use Rattle.graph.specs.Sets.{elem, filter, gather}
@@ -17,7 +16,7 @@ use Rattle.block_diag_ldlt.specs.Block.{blockLdlt}
 use Rattle.block_diag_ldlt.specs.declared.core.Settled.{Settled}
 use Rattle.block_diag_ldlt.specs.declared.core.Settled.the-variants.{Accepted, NotFinite, Poor}
 use Rattle.machine.specs.System.{System, blocks, dim, order}
-use Rattle.machine.specs.Machine.{State, Column, columnAt, rowsAt, bodyOr, touch, reduced, load, product, products, reached, sequenceBy, sequence, worked, made, refused, solved, settledBy, finish, madeOf, going, run}
+use Rattle.machine.specs.Machine.{State, Column, columnAt, rowsAt, bodyOr, touch, reduced, load, product, products, reached, sequence, worked, made, solved, settledBy, finish, going, run}
 use Rattle.machine.proofs.RunLocal.{column-made}
 use Rattle.row_products.proofs.RowLaws.{products-append}
 use Rattle.scalars.specs.Bodies.{offsets}

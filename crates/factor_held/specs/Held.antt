@@ -3,7 +3,7 @@ use Prim.Native.Nat.{ℕ, _*_, _≤_, _<_}
 use mathlib.Core.Path.{_≡_}
 use lib.ListN.{length}
 use Rattle.machine.specs.System.{System, blocks, dim}
-use Rattle.machine.specs.Machine.{State, Column, columnAt, going, run}
+use Rattle.machine.specs.Machine.{State, Column, columnAt, going}
 use Rattle.layout.specs.Layout.{tables}
 use Rattle.factor_setup.specs.Exact.{sizes, lStarts, lRows, lOffsets, valuesAfter, unitsAfter, pivotsAfter}
 use Rattle.solution.specs.Flat.{HoldsColumns}

@@ -2,10 +2,10 @@
 use Prim.Native.Nat.{ℕ}
 use mathlib.Core.Bool.{Bool, true, false, cond}
 use mathlib.Core.List.{List, [], _∷_, _++_}
-use mathlib.Core.Path.{_≡_, refl, sym, ap, _∙_}
+use mathlib.Core.Path.{_≡_, sym, ap, _∙_}
 use lib.Ieee.{Float}
-use lib.ListN.{length, drop}
-use Rattle.refusal.specs.Refusal.{Told, done, accepted, refuses, firstOf, after}
+use lib.ListN.{drop}
+use Rattle.refusal.specs.Refusal.{Told, done, accepted, refuses}
 use Rattle.refusal.proofs.Laws.{first-refuses, first-passes}
 use Rattle.scalars.specs.Scalars.{scalarCount}
 use Rattle.marks.specs.Mark.{marksOf, silentOf}

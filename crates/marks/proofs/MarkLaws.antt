@@ -1,8 +1,7 @@
 -- The loops that write the marks: `UpTo` is where they stand, `up-none`, `up-more` and `up-all` their turns. Assumes nothing.
-use Prim.Native.Nat.{ℕ, _+_, _-_, _≤_, _<_}
-use mathlib.Core.Bool.{Bool, true, false}
+use Prim.Native.Nat.{ℕ, _+_, _≤_, _<_}
 use mathlib.Core.List.{List, map}
-use mathlib.Core.Path.{_≡_, refl, sym, ap, subst, _∙_}
+use mathlib.Core.Path.{_≡_, sym, ap, subst, _∙_}
 use native.Mathlib.Omega.{arith}
 use lib.Ieee.{Float, nan}
 use lib.ListN.{length, getD, set, length-set}
@@ -11,14 +10,12 @@ use Rattle.buckets.specs.Buckets.{before}
 use Rattle.buckets.proofs.Turns.{before-next}
 use Rattle.tables.specs.Search.{sum}
 use Rattle.tables.specs.Verdict.{at}
-use Rattle.tables.specs.Sound.{Sizes}
 use Rattle.tables.proofs.SearchLaws.{sum-next, sum-end, sum-split}
 use Rattle.order.specs.Order.{sizesOf}
 use Rattle.order.proofs.Laws.{below-at}
 use Rattle.scalars.specs.Scalars.{scalarStarts, scalarCount, scalarPerm}
-use Rattle.scalars.proofs.ScalarLaws.{starts-at, length-starts, nothing-before, runs-apart, perm-entry, scalar-permutes, sizes-total, sizes-at}
+use Rattle.scalars.proofs.ScalarLaws.{starts-at, length-starts, runs-apart, perm-entry, scalar-permutes, sizes-total, sizes-at}
 use Rattle.machine.specs.System.{inverseOf}
-use Rattle.factor_tables.proofs.NeedLaws.{few-scalars}
 use Rattle.solution.proofs.EdgeLaws.{scattered-turn, scattered-all}
 use Rattle.marks.specs.declared.core.Mark.{Mark}
 use Rattle.marks.specs.declared.core.Mark.the-variants.{Silent, Heard}

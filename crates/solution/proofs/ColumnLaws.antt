@@ -2,10 +2,10 @@
 --     columns-held    those that are read off them
 --     machine-held    the machine's finished columns
 -- Assumes nothing.
-use Prim.Native.Nat.{ℕ, _+_, _*_, _≤_, _<_}
+use Prim.Native.Nat.{ℕ, _*_, _≤_, _<_}
 use mathlib.Core.Bool.{not}
 use mathlib.Core.List.{List}
-use mathlib.Core.Path.{_≡_, refl, sym, ap, subst, _∙_}
+use mathlib.Core.Path.{_≡_, refl, sym, ap}
 use native.Mathlib.Omega.{arith}
 use borrow.Author.Tests.{eq-eqb, ne-eqb}
 use lib.Dec.{eqb}
@@ -20,7 +20,7 @@ use Rattle.block_product.specs.Working.{slot}
 use Rattle.layout.specs.Layout.{Tables, side, startOf, stopOf, RowsLaid, unitStartsOf}
 use Rattle.layout.proofs.RowLaws.{rows-slot, rows-rise}
 use Rattle.finish_column.specs.Finish.{HoldsAll}
-use Rattle.solution.specs.Flat.{columnIn, HoldsRows, HoldsFactors, HoldsColumns}
+use Rattle.solution.specs.Flat.{columnIn, HoldsColumns}
 
 module _ (t : Tables) {n v c : ℕ} (laid : RowsLaid t n v c) where
   -- a row stands at one place of its column

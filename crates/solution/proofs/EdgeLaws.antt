@@ -1,5 +1,5 @@
 -- A right side by new number, and back. The loops: `permuted-turn` and `permuted-length`; `unpermuted-turn` and `unpermuted-all`. Assumes nothing.
-use Prim.Native.Nat.{ℕ, _+_, _<_, _≤_}
+use Prim.Native.Nat.{ℕ, _+_, _<_}
 use mathlib.Core.List.{List, map}
 use mathlib.Core.Logic.{⊎-elim}
 use mathlib.Core.Path.{_≡_, sym, ap, subst, _∙_}

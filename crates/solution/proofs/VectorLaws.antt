@@ -8,7 +8,7 @@
 --     row-fits           what a row needs, from how the blocks lie
 --     held-long, held-back, held-all   the first numbers of a local array, written
 -- Assumes nothing.
-use Prim.Native.Nat.{ℕ, _+_, _*_, _≤_, _<_}
+use Prim.Native.Nat.{ℕ, _+_, _≤_, _<_}
 use mathlib.Core.List.{List, _++_}
 use mathlib.Core.Logic.{_⊎_, inl, inr, ⊎-elim}
 use mathlib.Core.Path.{_≡_, ap, _∙_}
@@ -19,7 +19,7 @@ use lib.Ieee.{Float}
 use lib.ListN.{length, take, drop}
 use lib.Seq.{length-take-le, length-front, take-at}
 use Rattle.scalar.specs.Block.{within}
-use Rattle.graph.specs.Sets.{from, gather}
+use Rattle.graph.specs.Sets.{from}
 use Rattle.graph.proofs.SetLaws.{decide, true-of, false-of, eqb-of, from-elim}
 use Rattle.tables.specs.Verdict.{at}
 use Rattle.tables.specs.Sound.{Sizes}

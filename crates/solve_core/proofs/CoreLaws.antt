@@ -16,9 +16,7 @@ use Rattle.tables.specs.Verdict.{at, pastDiagonal}
 use Rattle.tables.specs.Sound.{Sizes, Columns}
 use Rattle.order.specs.Order.{sizesOf}
 use Rattle.scalars.specs.Scalars.{scalarStarts, scalarCount, scalarPerm}
-use Rattle.scalars.specs.Bodies.{offsets}
 use Rattle.scalars.proofs.ScalarLaws.{scalar-permutes}
-use Rattle.machine.specs.Machine.{Column}
 use Rattle.layout.specs.Layout.{tables, unitStartsOf, unitsNeed, workNeed, RowsLaid, DiagonalLaid}
 use Rattle.layout.proofs.DiagonalLaws.{diagonal-laid}
 use Rattle.layout.proofs.RowLaws.{rows-laid}

@@ -1,9 +1,10 @@
 -- What the solve needs of its tables, and what it promises. Assumes nothing.
 use Prim.Native.Nat.{ℕ, _+_, _≤_}
-use mathlib.Core.List.{List}
+use mathlib.Core.List.{List, _++_}
 use mathlib.Core.Path.{_≡_}
 use lib.Ieee.{Float}
-use lib.ListN.{length}
+use lib.ListN.{length, drop, replicate}
+use Rattle.scalar.specs.Block.{zeros}
 use Rattle.graph.specs.Order.{Permutes}
 use Rattle.tables.specs.Verdict.{areas, pastDiagonal}
 use Rattle.tables.specs.Sound.{Sizes, Columns}
@@ -45,3 +46,10 @@ abbrev pub Substitutes : (t : Tables) (starts : List ℕ) (lValues diag d y y′
 Substitutes t starts lValues diag d y y′ =
     (col : ℕ → Column) → HoldsColumns t lValues diag d (length (t .sizes)) col → (x : Vector) → ShowsVector (t .sizes) starts y x
     → ShowsVector (t .sizes) starts y′ (solved (side t) col (length (t .sizes)) x)
+
+-- scratch that may be longer than its need is zeros in its needed part, and beyond it as it was
+pub record Cleared (dims : List ℕ) (y : List Float) (perm sizes starts : List ℕ) (y′ : List Float) (perm′ sizes′ starts′ : List ℕ) : Type 0 where
+  pub of-y : y′ ≡ zeros (scalarCount dims) ++ drop (scalarCount dims) y
+  pub of-perm : perm′ ≡ replicate (scalarCount dims) 0 ++ drop (scalarCount dims) perm
+  pub of-sizes : sizes′ ≡ replicate (length dims) 0 ++ drop (length dims) sizes
+  pub of-starts : starts′ ≡ replicate (length dims + 1) 0 ++ drop (length dims + 1) starts

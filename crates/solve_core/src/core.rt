@@ -14,7 +14,7 @@ ghost use Rattle.order.specs.Order.{sizesOf};
 ghost use Rattle.scalars.specs.Scalars.{scalarStarts, scalarCount, scalarPerm};
 ghost use Rattle.layout.specs.Layout.{tables, unitStartsOf, RowsLaid, DiagonalLaid, workNeed};
 ghost use Rattle.solution.specs.Flat.{BlocksLaid};
-ghost use Rattle.solve_core.specs.Core.{Solvable, SolveRoom, SolvedBy, Substitutes};
+ghost use Rattle.solve_core.specs.Core.{Solvable, SolveRoom, SolvedBy, Cleared, Substitutes};
 
 // x, the right side in old order, becomes the solution. The order of elimination and the factor's tables and numbers are as `factorize`
 // leaves them. The rest is scratch, and ends as zeros:
@@ -60,6 +60,47 @@ pub fn solve_core(
     buckets::core::fill(perm, 0);
     buckets::core::fill(sizes, 0);
     buckets::core::fill(starts, 0);
+}
+
+// The same where scratch may be longer than its need: the work is done in the first places of each, and those beyond are as they were.
+pub fn solve_lent(
+    dims: &[u32],
+    order: &[u32],
+    l_starts: &[u32],
+    l_rows: &[u32],
+    l_offsets: &[u32],
+    l_values: &[f64],
+    diag: &[f64],
+    d: &[f64],
+    x: &mut [f64],
+    y: &mut [f64],
+    perm: &mut [u32],
+    sizes: &mut [u32],
+    starts: &mut [u32],
+)
+    requires { ⌜ Solvable (now dims) (now order) (now «l_starts») (now «l_rows») (now «l_offsets») (length (now «l_values»)) (length (now diag)) (length (now d)) ⌝ }
+    requires { ⌜ (length (now x) ≡ scalarCount (now dims)) × (scalarCount (now dims) ≤ length (now y)) × (scalarCount (now dims) ≤ length (now perm)) × (length (now dims) ≤ length (now sizes)) × (length (now dims) + 1 ≤ length (now starts)) ⌝ }
+    ensures { λ _. ⌜ SolvedBy (now (dims .entry)) (now (order .entry)) (now («l_starts» .entry)) (now («l_rows» .entry)) (now («l_offsets» .entry)) (now («l_values» .entry)) (now (diag .entry)) (now (d .entry)) (now (x .entry)) (now (x .exit)) ⌝ }
+    ensures { λ _. ⌜ Cleared (now (dims .entry)) (now (y .entry)) (now (perm .entry)) (now (sizes .entry)) (now (starts .entry)) (now (y .exit)) (now (perm .exit)) (now (sizes .exit)) (now (starts .exit)) ⌝ }
+{
+    let m = x.len();
+    let n = dims.len();
+    let n1 = n + 1;
+    solve_core(
+        dims,
+        order,
+        l_starts,
+        l_rows,
+        l_offsets,
+        l_values,
+        diag,
+        d,
+        x,
+        &mut y[..m],
+        &mut perm[..m],
+        &mut sizes[..n],
+        &mut starts[..n1],
+    );
 }
 
 // The scalar permutation, and the dimensions and starts by new number. `starts` holds those of the old blocks on the way.

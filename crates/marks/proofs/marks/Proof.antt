@@ -1,8 +1,8 @@
 -- `marks::marks` meets its contract: each test that passes leaves the verdict to the checks after it, and the first that fails is the
 -- verdict (`refused`); past all of them the marks are made (`answered`). Assumes nothing.
-use Prim.Native.Nat.{ℕ, _+_, _*_, _≤_}
+use Prim.Native.Nat.{_≤_}
 use mathlib.Core.List.{List, [], _∷_}
-use mathlib.Core.Path.{_≡_, refl, sym, ap, subst, _∙_}
+use mathlib.Core.Path.{_≡_, refl, sym, ap, _∙_}
 use native.Mathlib.Nat.{mul-one}
 use native.Mathlib.Omega.{arith}
 use lib.ListN.{length, take, drop}

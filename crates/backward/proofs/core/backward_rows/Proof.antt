@@ -1,12 +1,10 @@
 -- `backward::core::backward_rows` meets its contract: the invariant: the rows before place u are done (`UpTo`). Assumes nothing.
 use Prim.Native.Nat.{_+_, _-_, _≤_}
-use mathlib.Core.Path.{_≡_, refl, sym, subst, _∙_}
+use mathlib.Core.Path.{_≡_, refl, _∙_}
 use native.Mathlib.Omega.{arith}
 use lib.ListN.{length}
 use denote.Ref.{now}
-use Rattle.layout.specs.Layout.{Tables, tables, startOf}
-use Rattle.tables.specs.Verdict.{at}
-use Rattle.solution.specs.Flat.{BlocksLaid}
+use Rattle.layout.specs.Layout.{Tables, tables}
 use Rattle.solution.proofs.VectorLaws.{row-fits}
 use Rattle.backward.proofs.BackwardLaws.{UpTo, up-none, up-more, up-all}
 use Rattle.backward.proofs.core.backward_rows.Statement.{statement}

@@ -1,6 +1,6 @@
 -- `block_solves::core::solve_block` meets its contract: the lent part is put back as the block's solve left it (`block-done`). Assumes nothing.
 use Prim.Native.Nat.{_+_, _*_, _≤_}
-use mathlib.Core.Path.{_≡_, sym, ap, subst, _∙_}
+use mathlib.Core.Path.{sym, ap, subst, _∙_}
 use native.Mathlib.Nat.{add-sub-cancel-left}
 use native.Mathlib.Omega.{arith}
 use lib.ListN.{length}

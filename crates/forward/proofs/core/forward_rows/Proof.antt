@@ -4,8 +4,7 @@ use mathlib.Core.Path.{_≡_, refl, sym, subst, _∙_}
 use native.Mathlib.Omega.{arith}
 use lib.ListN.{length}
 use denote.Ref.{now}
-use Rattle.layout.specs.Layout.{Tables, tables, startOf}
-use Rattle.tables.specs.Verdict.{at}
+use Rattle.layout.specs.Layout.{Tables, tables}
 use Rattle.solution.specs.Flat.{BlocksLaid}
 use Rattle.solution.proofs.VectorLaws.{row-fits}
 use Rattle.forward.proofs.ForwardLaws.{UpTo, up-none, up-more, up-all}

@@ -1,5 +1,5 @@
 -- `marks::core::mark_core` meets its contract: where the old scalars begin, then the loop. Assumes nothing.
-use Prim.Native.Nat.{_+_, _≤_}
+use Prim.Native.Nat.{_+_}
 use mathlib.Core.Path.{_≡_, sym, ap, _∙_}
 use lib.ListN.{length, take}
 use lib.Seq.{length-take-le, take-at}

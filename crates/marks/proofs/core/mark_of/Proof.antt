@@ -1,5 +1,4 @@
 -- `marks::core::mark_of` meets its contract. Assumes nothing.
-use mathlib.Core.Path.{_≡_}
 use Rattle.marks.specs.Mark.{mark}
 use Rattle.marks.proofs.core.mark_of.Statement.{statement}
 use Rattle.marks.proofs.core.mark_of.Tie as tie

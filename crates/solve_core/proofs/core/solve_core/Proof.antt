@@ -1,7 +1,7 @@
 -- `solve_core::core::solve_core` meets its contract: the tables, the right side by new number, the three parts, the solution back (`solves`),
 -- and all scratch cleared. Assumes nothing.
-use mathlib.Core.Path.{_≡_, sym, ap, _∙_}
-use lib.ListN.{length, replicate}
+use mathlib.Core.Path.{sym, ap, _∙_}
+use lib.ListN.{replicate}
 use denote.Ref.{now}
 use borrow.Author.Needs.{needs}
 use Rattle.scalar.specs.Block.{zeros}

@@ -1,6 +1,5 @@
 -- `solve_core::core::substitute` meets its contract: forward, blocks, backward. Assumes nothing.
-use mathlib.Core.Path.{_≡_, sym, subst, _∙_}
-use lib.ListN.{length}
+use mathlib.Core.Path.{sym, subst, _∙_}
 use denote.Ref.{now}
 use borrow.Author.Needs.{needs}
 use Rattle.solution.specs.Flat.{BlocksLaid}
