@@ -1,1 +1,0 @@
-// The flat lists of an accepted factorization hold the machine's columns: definitions and laws alone.
