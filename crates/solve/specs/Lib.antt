@@ -1,0 +1,2 @@
+-- What the contracts cite.
+pub mod Solve  -- what the call answers, and what it leaves
