@@ -27,7 +27,7 @@ use Rattle.solve_core.specs.Core.{Solvable, SolvedBy, Cleared}
 use Rattle.solve_core.proofs.CoreLaws.{laid}
 use Rattle.solve_match.specs.Verdict.{matchVerdict}
 use Rattle.solve_match.proofs.Fresh as match
-use Rattle.solve.specs.Solve.{told, lentList, callVerdict, Call, verdictOf, columnsOf, FreshFactor, Solves}
+use Rattle.solve.specs.Solve.{told, lentList, callVerdict, Call, verdictOf, columnsOf, HoldsFactor, FreshFactor, Solves}
 use Rattle.solve.specs.declared.Solved.{Solved}
 use Rattle.solve.specs.declared.Solved.the-variants as variant
 
@@ -125,7 +125,7 @@ module _ (a : Call) where
         (is-fresh .of-x, m .1 .0, m .1 .1 .0, m .1 .1 .1 .0, m .1 .1 .1 .1 .0)
 
     -- the lists hold the columns that are read off them
-    held : HoldsColumns (tables (sizesOf (a .dims) (a .order)) (a .lStarts) (a .lRows) (a .lOffsets)) (a .lValues) (a .diag) (a .d) (length (a .dims)) (columnsOf a)
+    held : HoldsFactor a (columnsOf a)
     held =
         let sizes = sizesOf (a .dims) (a .order) in
         let t = tables sizes (a .lStarts) (a .lRows) (a .lOffsets) in
@@ -151,6 +151,7 @@ module _ (a : Call) where
         of-scalar-perm = as-was (a .scalarPerm) _ e;
         of-sizes = as-was (a .sizes) _ e;
         of-scalar-starts = as-was (a .scalarStarts) _ e;
+        by-columns = λ passes. absurd (false≢true (sym passes ∙ e));
         fresh = λ passes. absurd (false≢true (sym passes ∙ e));
       }
 
@@ -166,5 +167,6 @@ module _ (a : Call) where
         of-scalar-perm = as-new (a .scalarPerm) _ scalarPerm e (cleared .of-perm);
         of-sizes = as-new (a .sizes) _ sizes e (cleared .of-sizes);
         of-scalar-starts = as-new (a .scalarStarts) _ starts e (cleared .of-starts);
+        by-columns = λ _. solves;
         fresh = is-fresh;
       }

@@ -13,7 +13,7 @@ use Rattle.scalars.specs.Scalars.{scalarCount}
 use Rattle.machine.specs.Machine.{Column}
 use Rattle.layout.specs.Layout.{tables}
 use Rattle.solution.specs.Solution.{solution}
-use Rattle.solution.specs.Flat.{columnIn}
+use Rattle.solution.specs.Flat.{columnIn, HoldsColumns}
 use Rattle.solve_checks.specs.Verdict.{badFactor, solveVerdict}
 use Rattle.solve_match.specs.Verdict.{badColumn, matchVerdict}
 use Rattle.solve_match.specs.Fresh.{Fresh}
@@ -110,6 +110,10 @@ module _ (a : Call) where
   abbrev pub columnsOf : ℕ → Column
   columnsOf = columnIn (tables (sizesOf (a .dims) (a .order)) (a .lStarts) (a .lRows) (a .lOffsets)) (a .lValues) (a .diag) (a .d)
 
+  -- these columns stand in the factor's lists
+  abbrev pub HoldsFactor : (ℕ → Column) → Type 0
+  HoldsFactor col = HoldsColumns (tables (sizesOf (a .dims) (a .order)) (a .lStarts) (a .lRows) (a .lOffsets)) (a .lValues) (a .diag) (a .d) (length (a .dims)) col
+
   -- the factor is that of the system
   abbrev pub FreshFactor : Type 0
   FreshFactor = Fresh (a .dims) (a .starts) (a .rows) (a .perm) (a .late) (a .order) (a .parents) (a .lStarts) (a .lRows) (a .lOffsets) (length (a .diag)) (length (a .d)) (length (a .x))
@@ -127,5 +131,7 @@ pub record Solves (a : Call) (r : Solved) (x y : List Float) (scalarPerm sizes s
   pub of-scalar-perm : scalarPerm ≡ after (verdictOf a) (a .scalarPerm) (cleared (scalarCount (a .dims)) (a .scalarPerm))
   pub of-sizes : sizes ≡ after (verdictOf a) (a .sizes) (cleared (length (a .dims)) (a .sizes))
   pub of-scalar-starts : scalarStarts ≡ after (verdictOf a) (a .scalarStarts) (cleared (length (a .dims) + 1) (a .scalarStarts))
+  -- the same with any columns that the factor's lists hold, so with those of a run of the machine whose factor they are
+  pub by-columns : refuses (verdictOf a) ≡ false → (col : ℕ → Column) → HoldsFactor a col → x ≡ solution (a .dims) (a .order) col (a .x)
   -- no stale factor is accepted: the tables are those of the system's own plan
   pub fresh : refuses (verdictOf a) ≡ false → FreshFactor a
