@@ -1,0 +1,2 @@
+-- The claims.
+pub mod Accepted  -- what a solve never refuses
