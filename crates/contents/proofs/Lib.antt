@@ -1,0 +1,2 @@
+-- The laws of the contents.
+pub mod Laws

@@ -1,0 +1,2 @@
+-- The laws of bytes and tables.
+pub mod Laws
