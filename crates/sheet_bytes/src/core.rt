@@ -3,7 +3,8 @@
 use replay::number;
 ghost use mathlib.Core.Path.{_≡_};
 ghost use Prim.Native.Nat.{ℕ, _+_, _*_, _≤_, _<_};
-ghost use lib.ListN.{length};
+ghost use mathlib.Core.List.{_++_};
+ghost use lib.ListN.{length, drop};
 ghost use Rattle.sheet_bytes.specs.Layout.{u32At, u64At, f64At, u32s, f64s};
 
 // A byte as a u32: a call asks nothing, where a cast of an element asks that it fits.
@@ -62,4 +63,19 @@ pub fn read_f64s(s: &[u8], start: usize, out: &mut [f64])
     for k in 0..out.len() {
         out[k] = f64_at(s, start + 8 * k);
     }
+}
+
+// The same in the first `count` places of what is lent.
+pub fn fill_u32s(s: &[u8], start: usize, stride: usize, count: usize, out: &mut [u32])
+    requires { ⌜ (count ≤ length (now out)) × ((k : ℕ) → k < count → start + stride * k + 4 ≤ length (now s)) ⌝ }
+    ensures { λ _. ⌜ now (out .exit) ≡ u32s (now (s .entry)) start stride count ++ drop count (now (out .entry)) ⌝ }
+{
+    read_u32s(s, start, stride, &mut out[..count]);
+}
+
+pub fn fill_f64s(s: &[u8], start: usize, count: usize, out: &mut [f64])
+    requires { ⌜ (count ≤ length (now out)) × (start + 8 * count ≤ length (now s)) ⌝ }
+    ensures { λ _. ⌜ now (out .exit) ≡ f64s (now (s .entry)) start count ++ drop count (now (out .entry)) ⌝ }
+{
+    read_f64s(s, start, &mut out[..count]);
 }

@@ -1,0 +1,2 @@
+-- The laws of readings of a sheet.
+pub mod Laws
