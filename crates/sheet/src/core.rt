@@ -149,5 +149,16 @@ pub fn keep(
     ensures { λ _. ⌜ Unpacks (now (bytes .entry)) (now (dims .entry)) (now (late .entry)) (now (perm .entry)) (now (starts .entry)) (now (rows .entry)) (now (values .entry)) (now (right .entry)) (now (dims .exit)) (now (late .exit)) (now (perm .exit)) (now (starts .exit)) (now (rows .exit)) (now (values .exit)) (now (right .exit)) ⌝ }
 {
     let mut columns = [0u32; 1024];
-    keep_in(bytes, night, dims, late, perm, starts, rows, values, right, &mut columns);
+    keep_in(
+        bytes,
+        night,
+        dims,
+        late,
+        perm,
+        starts,
+        rows,
+        values,
+        right,
+        &mut columns,
+    );
 }

@@ -1,3 +1,69 @@
 // A sheet read into tables, whatever its bytes are: accepted, or refused in the order of the program `fit`. What the bytes of a sheet
 // hold, and the verdict, are in specs/Sheet.antt of sheet_check.
 pub mod core;
+
+use crate::core::check_tables;
+use crate::core::keep;
+use sheet_bytes::core::u32_at;
+pub use sheet_check::core::Night;
+use sheet_check::core::ROOM_BLOCKS;
+use sheet_check::core::ROOM_STORED;
+pub use sheet_check::core::Sheet;
+use tables::core::wide;
+ghost use mathlib.Core.Path.{_≡_};
+ghost use Rattle.sheet_check.specs.Outcome.{told, sheetTold};
+ghost use Rattle.sheet.specs.Reads.{Reads};
+
+// What the bytes of a sheet say.
+pub fn check(bytes: &[u8]) -> Sheet
+    ensures { λ r. ⌜ told r ≡ sheetTold (now (bytes .entry)) ⌝ }
+{
+    if bytes.len() < 16 {
+        return Sheet::Length;
+    }
+    let n = wide(u32_at(bytes, 0));
+    if n > ROOM_BLOCKS {
+        return Sheet::Room;
+    }
+    let m = wide(u32_at(bytes, 4));
+    if m > ROOM_STORED {
+        return Sheet::Room;
+    }
+    if bytes.len() < 16 + 12 * n + 12 * m {
+        return Sheet::Length;
+    }
+    check_tables(bytes, n, m)
+}
+
+// A sheet read into tables of the program's room. Accepted, the first places of each hold the sheet's: `dims`, `late` and `perm` one
+// for each block, `starts` one more, `rows` one for each stored block of A, `values` the numbers of A's bodies, `right` the right side.
+// The places beyond are as they were; under a refusal all are.
+pub fn read(
+    bytes: &[u8],
+    dims: &mut [u32; 128],
+    late: &mut [u32; 128],
+    perm: &mut [u32; 128],
+    starts: &mut [u32; 129],
+    rows: &mut [u32; 1024],
+    values: &mut [f64; 4096],
+    right: &mut [f64; 512],
+) -> Sheet
+    ensures { λ r. ⌜ Reads (now (bytes .entry)) (now (dims .entry)) (now (late .entry)) (now (perm .entry)) (now (starts .entry)) (now (rows .entry)) (now (values .entry)) (now (right .entry)) r (now (dims .exit)) (now (late .exit)) (now (perm .exit)) (now (starts .exit)) (now (rows .exit)) (now (values .exit)) (now (right .exit)) ⌝ }
+{
+    let r = check(bytes);
+    match r {
+        Sheet::Accepted(night) => {
+            keep(bytes, night, dims, late, perm, starts, rows, values, right);
+            Sheet::Accepted(night)
+        }
+        Sheet::Dimension { place } => Sheet::Dimension { place },
+        Sheet::Column { place } => Sheet::Column { place },
+        Sheet::Row { place } => Sheet::Row { place },
+        Sheet::Order { place } => Sheet::Order { place },
+        Sheet::Permutation { place } => Sheet::Permutation { place },
+        Sheet::Late { place } => Sheet::Late { place },
+        Sheet::Tolerance => Sheet::Tolerance,
+        Sheet::Length => Sheet::Length,
+        Sheet::Room => Sheet::Room,
+    }
+}

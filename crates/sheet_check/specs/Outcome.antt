@@ -4,7 +4,6 @@ use Prim.Native.Nat.{ℕ}
 use Rattle.refusal.specs.Refusal.{Told, accepted, firstOf, badDimension, badStarts, outOfRange, notIncreasing, badPermutation, badLateFlags, badTolerance, badSheet, noRoom}
 use Rattle.sheet_bytes.specs.Layout.{blocksOf, storedOf, tolOf}
 use Rattle.sheet_check.specs.Sheet.{valueCount, scalarsOf, sheetVerdict}
-use Rattle.sheet_check.specs.declared.core.Night.{Night}
 use Rattle.sheet_check.specs.declared.core.Sheet.{Sheet}
 use Rattle.sheet_check.specs.declared.core.Sheet.the-variants as sheet
 

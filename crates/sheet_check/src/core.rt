@@ -135,7 +135,18 @@ pub fn by_number(
     if !is_tolerance(tol) {
         return Sheet::Tolerance;
     }
-    by_room(dims, late, perm, starts, rows, columns, offsets, tol, bodies, size)
+    by_room(
+        dims,
+        late,
+        perm,
+        starts,
+        rows,
+        columns,
+        offsets,
+        tol,
+        bodies,
+        size,
+    )
 }
 
 // 2 and 3, then what `by_number` tests, with the starts worked out.
@@ -164,5 +175,16 @@ pub fn by_table(
         return Sheet::Column { place: k3 };
     }
     make_starts(columns, n, starts);
-    by_number(dims, late, perm, &starts[..], rows, columns, offsets, tol, bodies, size)
+    by_number(
+        dims,
+        late,
+        perm,
+        &starts[..],
+        rows,
+        columns,
+        offsets,
+        tol,
+        bodies,
+        size,
+    )
 }

@@ -1,7 +1,7 @@
 -- `sheet::core::fill_starts` meets its contract: the starts stand in the places that are lent on. Assumes nothing.
 use Prim.Native.Nat.{ℕ, _+_}
 use mathlib.Core.List.{List, _++_}
-use mathlib.Core.Path.{_≡_, sym, ap}
+use mathlib.Core.Path.{sym, ap}
 use native.Mathlib.Omega.{arith}
 use lib.ListN.{drop}
 use lib.Seq.{length-take-le}

@@ -1,7 +1,7 @@
 -- `sheet::core::unpack` meets its contract: each table is the sheet's, since n and m are. Assumes nothing.
 use Prim.Native.Nat.{ℕ, _+_, _*_}
-use mathlib.Core.List.{List, _++_}
-use mathlib.Core.Path.{_≡_, ap, ap₂, _∙_}
+use mathlib.Core.List.{_++_}
+use mathlib.Core.Path.{ap, ap₂, _∙_}
 use lib.ListN.{drop}
 use denote.Ref.{now}
 use Rattle.sheet_bytes.specs.Layout.{u32s}

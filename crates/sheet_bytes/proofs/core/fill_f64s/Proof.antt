@@ -1,5 +1,4 @@
 -- `sheet_bytes::core::fill_f64s` meets its contract: the table stands in the places that are lent on. Assumes nothing.
-use Prim.Native.Nat.{ℕ}
 use mathlib.Core.List.{List, _++_}
 use mathlib.Core.Path.{_≡_, sym, ap, _∙_}
 use native.Mathlib.Omega.{arith}

@@ -2,13 +2,11 @@
 use Prim.Native.Nat.{ℕ}
 use mathlib.Core.List.{List}
 use mathlib.Core.Path.{_≡_, refl, sym, ap, _∙_}
-use native.Mathlib.Omega.{arith}
 use borrow.Author.Tests.{not-true, not-false}
 use lib.ListN.{length, drop}
 use Rattle.refusal.specs.Refusal.{Told, verdict, firstOf}
 use Rattle.tables.specs.Search.{first}
 use Rattle.tables.specs.Verdict.{fromDiagonal, rowFits, orderFits}
-use Rattle.tables.specs.Sound.{Ordered}
 use Rattle.tables.proofs.CheckLaws.{rows-stop, rows-go, order-stop, order-go, perm-stop, perm-go, late-stop, late-go, tolerance-stop, tolerance-go}
 use Rattle.tables.proofs.TableLaws.{columns-of}
 use Rattle.contents.specs.Contents.{startsFrom}

@@ -1,14 +1,14 @@
 -- `sheet_check::core::by_room` meets its contract: each test that passes leaves what is told to the checks after it. Assumes nothing.
-use Prim.Native.Nat.{ℕ, _+_, _*_, _≤_}
+use Prim.Native.Nat.{ℕ, _+_, _*_}
 use mathlib.Core.List.{List}
 use mathlib.Core.Path.{_≡_, refl, sym, ap, ap₂, _∙_}
 use native.Mathlib.Omega.{arith}
-use lib.ListN.{length, drop}
+use lib.ListN.{drop}
 use Rattle.refusal.specs.Refusal.{Told, verdict, firstOf}
 use Rattle.tables.specs.Verdict.{areas}
 use Rattle.scalars.specs.Scalars.{scalarCount}
 use Rattle.contents.proofs.Laws.{offsets-stop, offsets-go}
-use Rattle.sheet_check.specs.Checks.{roomScalars, roomValues, roomChecks, nightTold, startsHere, valuesHere}
+use Rattle.sheet_check.specs.Checks.{roomScalars, roomValues, roomChecks, nightTold, valuesHere}
 use Rattle.sheet_check.proofs.Laws.{told-stops, told-goes, room-stop, room-go, end-stop, end-go}
 use borrow.Author.Needs.{needs}
 use Rattle.sheet_check.proofs.core.by_room.Statement.{statement}

@@ -1,8 +1,7 @@
 -- `sheet_check::core::by_table` meets its contract: each test that passes leaves what is told to the checks after it. Assumes nothing.
 use mathlib.Core.List.{List}
 use mathlib.Core.Path.{_≡_, refl, _∙_}
-use native.Mathlib.Omega.{arith}
-use lib.ListN.{length, drop}
+use lib.ListN.{drop}
 use Rattle.refusal.specs.Refusal.{Told, verdict, firstOf}
 use Rattle.tables.proofs.CheckLaws.{dims-stop, dims-go}
 use Rattle.tables.proofs.TableLaws.{sizes-of}
