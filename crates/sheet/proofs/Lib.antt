@@ -1,2 +1,3 @@
 -- The laws of readings of a sheet.
-pub mod Laws
+pub mod Laws  -- the tables in what is lent, and what is told
+pub mod Enough  -- how many bytes decide
