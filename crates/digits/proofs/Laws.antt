@@ -28,6 +28,12 @@ module _ (at : ℕ) (out : List ℕ) where
   pub length-written : (text : List ℕ) → at + length text ≤ length out → length (written at text out) ≡ length out
   length-written text h = length-append (take at out ++ text) (drop (at + length text) out) ∙ omega (arith, front text h, length-drop (at + length text) out)
 
+  -- no text leaves all as it was
+  pub written-none : written at [] out ≡ out
+  written-none =
+      let e : at + 0 ≡ at = omega arith in
+      ap₂ (λ (x : List ℕ) (k : ℕ). x ++ drop k out) (append-nil (take at out)) e ∙ take-append-drop at out
+
   -- a second text behind the first
   written-then : (text more : List ℕ) → at + length text + length more ≤ length out → written (at + length text) more (written at text out) ≡ written at (text ++ more) out
   written-then text more h =

@@ -39,7 +39,7 @@ pub fn spell(out: &mut [u8], at: usize, base: u64, k: usize, n: u64)
 
 // How many decimal digits n has. `unit` is the power of ten that the k-th digit from the end stands for.
 pub fn places(n: u64) -> usize
-    ensures { λ r. ⌜ r ≡ Digits·places n ⌝ }
+    ensures { λ r. ⌜ (r ≡ Digits·places n) × (r ≤ 20) ⌝ }
 {
     let mut k: usize = 1;
     let mut unit: u64 = 1;

@@ -1,2 +1,3 @@
--- The laws of lines.
-pub mod Laws
+-- The laws of lines and of renderings.
+pub mod Laws  -- lines piece by piece, and how long they are
+pub mod Outcomes  -- what a rendering leaves

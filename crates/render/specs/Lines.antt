@@ -1,11 +1,10 @@
 -- What the program `fit` prints, from document 01, as lists of ASCII codes. Assumes nothing.
-use Prim.Native.Nat.{ℕ}
+use Prim.Native.Nat.{ℕ, zero, suc}
 use mathlib.Core.Bool.{cond}
 use mathlib.Core.List.{List, [], _∷_, _++_}
 use lib.Dec.{eqb}
 use lib.Ieee.{Float, nan}
 use lib.ListN.{length, getD}
-use Rattle.graph.specs.Sets.{from, gather}
 use Rattle.digits.specs.Digits.{decimal, hex16, bitsOf}
 
 -- a line feed
@@ -60,7 +59,8 @@ scalarLine k x mark = decimal k ++ (32 ∷ []) ++ hex16 (bitsOf x) ++ markWord m
 
 -- the lines of the scalars 0 to n - 1
 unfoldable pub lines : (x : List Float) → (marks : List ℕ) → (n : ℕ) → List ℕ
-lines x marks n = gather (λ k. scalarLine k (getD x k nan) (getD marks k 0)) (from 0 n)
+lines x marks zero = []
+lines x marks (suc n) = lines x marks n ++ scalarLine n (getD x n nan) (getD marks n 0)
 
 -- an accepted answer: the first line, then a line for each scalar
 abbrev pub answerText : (blocks stored products silent : ℕ) → (x : List Float) → (marks : List ℕ) → List ℕ

@@ -30,7 +30,7 @@ unfolding places
 returns c =
     let l = c .before .before .loop in
     let b : c .before .before .before .args .n < 10 * l .unit = div-lt-iff-lt-mul (l .inv .2) .0 (c .if1 .taken) in
-    failed (l .inv .0) {r = false} (c .before .loop-test .taken) (sym (lt-leb (10 ^ l .k) (c .before .before .before .args .n) (omega (arith, l .inv .1)))) refl
+    (failed (l .inv .0) {r = false} (c .before .loop-test .taken) (sym (lt-leb (10 ^ l .k) (c .before .before .before .args .n) (omega (arith, l .inv .1)))) refl, omega arith)
 
 -- a power of ten that n reaches
 reached : (c : tie.Else1 Inv-loop μ-loop) → 10 * c .before .before .loop .unit ≤ c .before .before .before .args .n
@@ -50,7 +50,7 @@ loop-again c =
 
 returns-2 : tie.Need-returns-2 Inv-loop μ-loop
 unfolding places
-returns-2 c = ended (c .before .loop .inv .0) (omega arith)
+returns-2 c = (ended (c .before .loop .inv .0) (omega arith), c .before .loop .inv .0 .within)
 
 pub places-spec : {M : Type 1} → statement M
 places-spec =

@@ -12,7 +12,7 @@ use Rattle.digits.proofs.core.put_decimal.Tie as tie
 
 -- how many digits there are
 count : (c : tie.After-places) → c .places .result ≡ length (decimal (c .before .before .args .n))
-count c = c .places .ensures ∙ sym (length-digits 10 (places (c .before .before .args .n)) (c .before .before .args .n))
+count c = c .places .ensures .0 ∙ sym (length-digits 10 (places (c .before .before .args .n)) (c .before .before .args .n))
 
 spell-requires : tie.Need-spell-requires
 spell-requires c κs = (omega arith, omega arith, omega (arith, count (c .before), c .before .before .before .pre))
@@ -23,7 +23,7 @@ add-result c = omega (arith, count (c .before .before .before .before), c .befor
 returns : tie.Need-returns
 returns c =
     let x = c .before .before .before .before .before .before .args in
-    record { next = ap (λ (k : ℕ). x .at + k) (count (c .before .before .before .before)); text′ = c .before .before .spell .ensures ∙ ap (λ (k : ℕ). written (x .at) (digits 10 k (x .n)) (now (x .out))) (c .before .before .before .before .places .ensures) }
+    record { next = ap (λ (k : ℕ). x .at + k) (count (c .before .before .before .before)); text′ = c .before .before .spell .ensures ∙ ap (λ (k : ℕ). written (x .at) (digits 10 k (x .n)) (now (x .out))) (c .before .before .before .before .places .ensures .0) }
 
 pub put-decimal-spec : {M : Type 1} → statement M
 put-decimal-spec =
