@@ -128,10 +128,10 @@ module _ (s : List ℕ) (l : roomBytes < length s) where
       ⊎-elim
       (λ (h : roomBlocks < blocksOf s). sym (too-many cut (omega (arith, length-cut)) (omega (arith, blocks-cut))) ∙ too-many s l h)
       (λ (n : blocksOf s ≤ roomBlocks).
-        ⊎-elim
-        (λ (h : roomStored < storedOf s). sym (too-stored cut (omega (arith, length-cut)) (omega (arith, blocks-cut)) (omega (arith, stored-cut))) ∙ too-stored s l n h)
-        (λ (m : storedOf s ≤ roomStored). head-fits n m)
-        (lt-or-ge roomStored (storedOf s)))
+      ⊎-elim
+      (λ (h : roomStored < storedOf s). sym (too-stored cut (omega (arith, length-cut)) (omega (arith, blocks-cut)) (omega (arith, stored-cut))) ∙ too-stored s l n h)
+      (λ (m : storedOf s ≤ roomStored). head-fits n m)
+      (lt-or-ge roomStored (storedOf s)))
       (lt-or-ge roomBlocks (blocksOf s))
 
 -- the verdict on the first 50,705 bytes is the verdict on all
