@@ -4,12 +4,11 @@
 --     spelt-more, spelt-all              digits written from the last to the first
 --     few-places, more-places            what the search for the number of digits goes by
 -- Assumes nothing.
-use Prim.Native.Nat.{ℕ, zero, suc, _+_, _-_, _*_, _/_, _%_, _^_, _≤_, _<_}
-use mathlib.Core.Bool.{true, false, cond}
+use Prim.Native.Nat.{ℕ, zero, suc, _+_, _/_, _%_, _≤_, _<_}
 use mathlib.Core.List.{List, [], _∷_, _++_, append-assoc, append-nil}
 use mathlib.Core.Path.{_≡_, refl, sym, ap, ap₂, _∙_}
 use native.Mathlib.Omega.{arith}
-use lib.ListN.{length, getD, set, take, drop, length-append, length-drop, take-append-drop}
+use lib.ListN.{length, set, take, drop, length-append, length-drop, take-append-drop}
 use lib.Seq.{drop-cons, drop-append-add, take-at, take-set-le, drop-set-lt, getD-set-same, length-take-le, append-snoc, drop-drop, lt-length-set}
 use Rattle.digits.specs.Digits.{digit, digits, written, Puts}
 

@@ -1,6 +1,6 @@
 -- The outcome of a rendering, and its promise. Assumes nothing.
 use Prim.Native.Nat.{ℕ}
-use mathlib.Core.Bool.{cond, _&&_}
+use mathlib.Core.Bool.{cond}
 use mathlib.Core.List.{List, [], _∷_, _++_}
 use mathlib.Core.Path.{_≡_}
 use lib.Dec.{leb, eqb}
@@ -8,7 +8,6 @@ use lib.Ieee.{Float}
 use lib.ListN.{length, drop}
 use Rattle.refusal.specs.Refusal.{Told, accepted, done, verdict, firstOf, after, shortBuffer, shapesDisagree}
 use Rattle.refusal.specs.Check.{needCheck}
-use Rattle.render.specs.Lines.{answerText}
 use Rattle.render.specs.declared.Rendered.{Rendered}
 use Rattle.render.specs.declared.Rendered.the-variants.{Accepted, Short, Mismatch}
 

@@ -3,7 +3,7 @@
 use Prim.Native.Nat.{ℕ}
 use mathlib.Core.List.{List, [], _∷_}
 use mathlib.Core.Path.{_≡_, refl}
-use lib.Ieee.{Float, binary64, ofBits, lt}
+use lib.Ieee.{binary64, ofBits, lt}
 use lib.ListN.{length}
 use Rattle.scalar.specs.Scalar.{isFinite}
 use Rattle.refusal.specs.Refusal.{accepted, done}

@@ -15,17 +15,17 @@ use Rattle.refusal.proofs.Laws.{first-passes, both-pass}
 use Rattle.tables.specs.Verdict.{areas}
 use Rattle.contents.specs.Contents.{startsFrom}
 use Rattle.sheet_check.specs.Checks.{roomBlocks, roomStored, tableChecks, nightTold, toldAfter, Unpacked}
-use Rattle.sheet_check.specs.Sheet.{width, rowsOf, columnsOf, offsetsOf, valueCount, scalarsOf, sheetChecks, sheetVerdict}
+use Rattle.sheet_check.specs.Sheet.{width, rowsOf, columnsOf, offsetsOf, valueCount, scalarsOf, sheetChecks, sheetVerdict, startsOf, valuesOf, rightSideOf}
 use Rattle.sheet_check.specs.Outcome.{told, sheetTold}
 use Rattle.sheet_check.specs.declared.core.Night.{Night}
 use Rattle.sheet_check.specs.declared.core.Sheet.{Sheet}
 use Rattle.sheet_check.specs.declared.core.Sheet.the-variants as sheet
 use Rattle.sheet_check.proofs.Laws.{told-stops, told-goes, room-stop, room-go, cut-stop, cut-go}
 use Rattle.sheet_check.proofs.Sound.{sheet-sound}
-use Rattle.sheet.specs.Reads.{Headed, Kept, Reads, Unpacks, tablesTold}
+use Rattle.sheet.specs.Reads.{Headed, Kept, Reads, Unpacks, tablesTold, Holds}
 
 -- the first n of a list that begins with n entries
-pub part-of : (n : ℕ) (xs ys whole : List ℕ) → whole ≡ xs ++ ys → length xs ≡ n → take n whole ≡ xs
+pub part-of : {A : Type 0} (n : ℕ) (xs ys whole : List A) → whole ≡ xs ++ ys → length xs ≡ n → take n whole ≡ xs
 part-of n xs ys whole e l = ap (take n) e ∙ take-at xs ys n l
 
 -- ---- lists that hold the tables of a sheet
@@ -142,3 +142,23 @@ module _ (s : List ℕ) (w : Night) (e : told (sheet.Accepted w) ≡ sheetTold s
   reads-kept u =
       let v = passes in
       record { outcome = e; of-dims = rw v (u .of-dims); of-late = rw v (u .of-late); of-perm = rw v (u .of-perm); of-starts = rw v (u .of-starts); of-rows = rw v (u .of-rows); of-values = rw v (u .of-values); of-right = rw v (u .of-right) }
+
+  -- so whoever reads the first places of what was lent finds them there
+  pub reads-hold : {dims late perm starts rows dims′ late′ perm′ starts′ rows′ : List ℕ} {values right values′ right′ : List Float} → Reads s dims late perm starts rows values right (sheet.Accepted w) dims′ late′ perm′ starts′ rows′ values′ right′ → Holds s w dims′ late′ perm′ starts′ rows′ values′ right′
+  reads-hold r =
+      let v = passes in
+      let c = counts in
+      let k = kept in
+      let z = k .sound in
+      record {
+        sound = z;
+        kept = k;
+        tol = cc;
+        of-dims = part-of (w .blocks) (dimsOf s) _ _ (rw v at (r .of-dims)) (z .of-dims ∙ sym (k .blocks));
+        of-late = part-of (w .blocks) (lateOf s) _ _ (rw v at (r .of-late)) (z .of-late ∙ sym (k .blocks));
+        of-perm = part-of (w .blocks) (permOf s) _ _ (rw v at (r .of-perm)) (z .of-perm ∙ sym (k .blocks));
+        of-starts = part-of (w .blocks + 1) (startsOf s) _ _ (rw v at (r .of-starts)) (z .of-starts ∙ ap (λ (n : ℕ). n + 1) (sym (k .blocks)));
+        of-rows = part-of (w .stored) (rowsOf s) _ _ (rw v at (r .of-rows)) (z .of-rows ∙ sym (k .stored));
+        of-values = part-of (w .values) (valuesOf s) _ _ (rw v at (r .of-values)) (z .of-values ∙ sym (k .values));
+        of-right = part-of (w .scalars) (rightSideOf s) _ _ (rw v at (r .of-right)) (z .of-right ∙ sym (k .scalars));
+      }

@@ -3,7 +3,7 @@ use Prim.Native.Nat.{ℕ, _+_, _*_, _≤_}
 use mathlib.Core.List.{List, _++_}
 use mathlib.Core.Path.{_≡_}
 use lib.Ieee.{Float}
-use lib.ListN.{length, drop}
+use lib.ListN.{length, take, drop}
 use Rattle.refusal.specs.Refusal.{Told, after}
 use Rattle.sheet_bytes.specs.Layout.{blocksOf, storedOf, tolOf, dimsOf, lateOf, permOf, bodiesAt}
 use Rattle.sheet_check.specs.Checks.{roomBlocks, roomStored, tableChecks, toldAfter}
@@ -64,3 +64,16 @@ pub record Unpacks (s : List ℕ) (dims late perm starts rows : List ℕ) (value
   pub of-rows : rows′ ≡ rowsOf s ++ drop (storedOf s) rows
   pub of-values : values′ ≡ valuesOf s ++ drop (valueCount s) values
   pub of-right : right′ ≡ rightSideOf s ++ drop (scalarsOf s) right
+
+-- what an accepted reading leaves, for whoever works with it: the sheet is sound, and the first places are its tables and numbers
+pub record Holds (s : List ℕ) (night : Night) (dims late perm starts rows : List ℕ) (values right : List Float) : Type 0 where
+  pub sound : SheetSound s
+  pub kept : Kept s night
+  pub tol : night .tol ≡ tolOf s
+  pub of-dims : take (night .blocks) dims ≡ dimsOf s
+  pub of-late : take (night .blocks) late ≡ lateOf s
+  pub of-perm : take (night .blocks) perm ≡ permOf s
+  pub of-starts : take (night .blocks + 1) starts ≡ startsOf s
+  pub of-rows : take (night .stored) rows ≡ rowsOf s
+  pub of-values : take (night .values) values ≡ valuesOf s
+  pub of-right : take (night .scalars) right ≡ rightSideOf s

@@ -1,5 +1,5 @@
 -- `digits::core::bits_of` meets its contract: a NaN alone differs from itself. Assumes nothing.
-use mathlib.Core.Path.{_≡_, _∙_}
+use mathlib.Core.Path.{_∙_}
 use Rattle.scalar.proofs.Floats.{nan-test}
 use Rattle.replay.proofs.Laws.{no-nan}
 use Rattle.digits.specs.Digits.{bitsOf}

@@ -1,5 +1,5 @@
 -- `digits::core::places` meets its contract: a search over the powers of ten. Assumes nothing.
-use Prim.Native.Nat.{ℕ, suc, _+_, _-_, _*_, _/_, _^_, _≤_, _<_}
+use Prim.Native.Nat.{_-_, _*_, _^_, _≤_, _<_}
 use mathlib.Core.Bool.{true, false}
 use mathlib.Core.Path.{_≡_, refl, sym}
 use native.Mathlib.Nat.{div-lt-iff-lt-mul, le-div-iff-mul-le, pow-suc}

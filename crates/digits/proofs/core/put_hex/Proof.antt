@@ -1,6 +1,6 @@
 -- `digits::core::put_hex` meets its contract: sixteen digits. Assumes nothing.
 use Prim.Native.Nat.{ℕ, _+_}
-use mathlib.Core.Path.{_≡_, sym, ap}
+use mathlib.Core.Path.{sym, ap}
 use Rattle.digits.proofs.Laws.{length-digits}
 use borrow.Author.Needs.{needs}
 use Rattle.digits.proofs.core.put_hex.Statement.{statement}

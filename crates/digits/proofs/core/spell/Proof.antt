@@ -1,13 +1,13 @@
 -- `digits::core::spell` meets its contract: what is written with what is left to write is the whole. Assumes nothing.
-use Prim.Native.Nat.{ℕ, suc, _+_, _-_, _/_, _%_, _≤_, _<_}
-use mathlib.Core.List.{List, _++_}
+use Prim.Native.Nat.{ℕ, suc, _+_, _-_, _/_, _≤_}
+use mathlib.Core.List.{_++_}
 use mathlib.Core.Path.{_≡_, refl, sym, ap, _∙_}
 use native.Mathlib.Nat.{mod-lt}
 use native.Mathlib.Omega.{arith}
 use borrow.Author.Needs.{needs}
 use lib.ListN.{length, set, take, drop, length-set}
 use denote.Ref.{now}
-use Rattle.digits.specs.Digits.{digits, written}
+use Rattle.digits.specs.Digits.{digits}
 use Rattle.digits.proofs.Laws.{spelt, spelt-more, spelt-all, length-digits}
 use Rattle.digits.proofs.core.spell.Statement.{statement}
 use Rattle.digits.proofs.core.spell.Tie as tie

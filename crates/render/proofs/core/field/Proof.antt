@@ -1,7 +1,4 @@
 -- `render::core::field` meets its contract: the number behind the label. Assumes nothing.
-use Prim.Native.Nat.{_+_, _≤_}
-use mathlib.Core.List.{_++_}
-use lib.ListN.{length}
 use denote.Ref.{now}
 use Rattle.digits.specs.Digits.{decimal}
 use Rattle.render.proofs.Laws.{fits-front, fits-next, puts-room, puts-next}

@@ -1,5 +1,4 @@
 -- `render::core::line_length` meets its contract: the number's digits, and all else is fixed. Assumes nothing.
-use mathlib.Core.Path.{_≡_, sym, _∙_}
 use native.Mathlib.Omega.{arith}
 use Rattle.render.proofs.Laws.{length-silent, length-heard}
 use borrow.Author.Needs.{needs}

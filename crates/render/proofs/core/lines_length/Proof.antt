@@ -1,5 +1,5 @@
 -- `render::core::lines_length` meets its contract: a sum, one turn a line. Assumes nothing.
-use Prim.Native.Nat.{ℕ, _+_, _-_, _*_, _≤_, zero-le}
+use Prim.Native.Nat.{ℕ, _-_, _*_, _≤_, zero-le}
 use mathlib.Core.Path.{_≡_, sym, ap, _∙_}
 use native.Mathlib.Omega.{arith}
 use lib.Ieee.{nan}

@@ -1,7 +1,4 @@
 -- `render::core::refused_line` meets its contract: the number behind the label, and the line's end. Assumes nothing.
-use Prim.Native.Nat.{_+_, _≤_}
-use mathlib.Core.List.{_++_}
-use lib.ListN.{length}
 use Rattle.render.specs.Lines.{field, refusedLabel, lineFeed}
 use Rattle.render.proofs.Laws.{fits-front, fits-next, puts-room, puts-next}
 use borrow.Author.Needs.{needs}

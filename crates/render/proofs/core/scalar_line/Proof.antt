@@ -1,7 +1,7 @@
 -- `render::core::scalar_line` meets its contract: five pieces, one behind the other. Assumes nothing.
 use Prim.Native.Nat.{ℕ, _+_, _≤_}
 use mathlib.Core.List.{List, [], _∷_, _++_}
-use mathlib.Core.Path.{_≡_, ap, subst}
+use mathlib.Core.Path.{subst}
 use lib.ListN.{length}
 use native.Mathlib.Omega.{arith}
 use denote.Ref.{now}
