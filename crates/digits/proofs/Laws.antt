@@ -76,6 +76,4 @@ module _ (at base i rest : ℕ) (out : List ℕ) (h : at + i < length out) where
 -- all are written
 pub spelt-all : (at base rest : ℕ) (out : List ℕ) → spelt at base out 0 rest ≡ out
 unfolding digits
-spelt-all at base rest out =
-    let e : at + 0 ≡ at = omega arith in
-    ap₂ (λ (x : List ℕ) (k : ℕ). x ++ drop k out) (append-nil (take at out)) e ∙ take-append-drop at out
+spelt-all at base rest out = written-none at out

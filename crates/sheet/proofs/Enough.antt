@@ -22,6 +22,7 @@ use Rattle.sheet_bytes.specs.Layout.{u32s, blocksOf, storedOf, tolOf, dimsOf, l
 use Rattle.sheet_bytes.proofs.Laws.{u32-take, f64-take, u32s-take}
 use Rattle.sheet_check.specs.Checks.{roomBlocks, roomStored, roomScalars, roomValues, roomCheck, startsHere, valuesHere, tableChecks}
 use Rattle.sheet_check.specs.Sheet.{roomBytes, width, rowsOf, columnsOf, offsetsOf, sheetChecks, sheetVerdict}
+use Rattle.sheet_check.proofs.Sound.{sheet-sound}
 use Rattle.sheet_check.proofs.Laws.{room-stop, room-go, room-passes, cut-go}
 
 -- ---- the last check alone differs
@@ -139,3 +140,13 @@ pub enough : (s : List ℕ) → sheetVerdict (take (roomBytes + 1) s) ≡ sheetV
 unfolding sheetVerdict
 enough s =
     ⊎-elim (λ (l : roomBytes < length s). long-same s l) (λ (l : length s ≤ roomBytes). ap (λ (t : List ℕ). verdict (sheetChecks t)) (take-all (roomBytes + 1) s (omega arith))) (lt-or-ge roomBytes (length s))
+
+-- that many
+is-50705 : roomBytes + 1 ≡ 50705
+is-50705 = refl
+
+-- and of a sheet that passes they are all
+pub whole : (s : List ℕ) → refuses (sheetVerdict s) ≡ false → take (roomBytes + 1) s ≡ s
+whole s e =
+    let z = sheet-sound s e in
+    take-all (roomBytes + 1) s (omega (arith, z .ends, z .blocks, z .stored, z .scalars, z .values))

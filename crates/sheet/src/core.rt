@@ -4,6 +4,8 @@ use sheet_bytes::core::f64_at;
 use sheet_bytes::core::fill_f64s;
 use sheet_bytes::core::fill_u32s;
 use sheet_check::core::Night;
+use sheet_check::core::ROOM_BLOCKS;
+use sheet_check::core::ROOM_STORED;
 use sheet_check::core::Sheet;
 use sheet_check::core::by_table;
 ghost use mathlib.Core.Path.{_≡_};
@@ -11,6 +13,7 @@ ghost use mathlib.Core.List.{_++_};
 ghost use Prim.Native.Nat.{_+_, _≤_, _<_};
 ghost use lib.ListN.{length, take, drop};
 ghost use Rattle.contents.specs.Contents.{startsFrom};
+ghost use Rattle.sheet_check.specs.Checks.{roomBlocks, roomScalars, roomStored, roomValues};
 ghost use Rattle.sheet_check.specs.Outcome.{told};
 ghost use Rattle.sheet.specs.Reads.{Headed, Kept, Parts, Unpacks, tablesTold};
 
@@ -77,13 +80,13 @@ pub fn check_tables(bytes: &[u8], n: usize, m: usize) -> Sheet
     requires { ⌜ Headed (now bytes) n m ⌝ }
     ensures { λ r. ⌜ told r ≡ tablesTold (now (bytes .entry)) ⌝ }
 {
-    let mut dims = [0u32; 128];
-    let mut late = [0u32; 128];
-    let mut perm = [0u32; 128];
-    let mut starts = [0u32; 129];
-    let mut rows = [0u32; 1024];
-    let mut columns = [0u32; 1024];
-    let mut offsets = [0u32; 1024];
+    let mut dims = [0u32; ROOM_BLOCKS];
+    let mut late = [0u32; ROOM_BLOCKS];
+    let mut perm = [0u32; ROOM_BLOCKS];
+    let mut starts = [0u32; ROOM_BLOCKS + 1];
+    let mut rows = [0u32; ROOM_STORED];
+    let mut columns = [0u32; ROOM_STORED];
+    let mut offsets = [0u32; ROOM_STORED];
     check_in(
         bytes,
         n,
@@ -119,7 +122,7 @@ pub fn keep_in(
     right: &mut [f64],
     columns: &mut [u32],
 )
-    requires { ⌜ Kept (now bytes) night × (128 ≤ length (now dims)) × (128 ≤ length (now late)) × (128 ≤ length (now perm)) × (129 ≤ length (now starts)) × (1024 ≤ length (now rows)) × (4096 ≤ length (now values)) × (512 ≤ length (now right)) × (1024 ≤ length (now columns)) ⌝ }
+    requires { ⌜ Kept (now bytes) night × (roomBlocks ≤ length (now dims)) × (roomBlocks ≤ length (now late)) × (roomBlocks ≤ length (now perm)) × (roomBlocks + 1 ≤ length (now starts)) × (roomStored ≤ length (now rows)) × (roomValues ≤ length (now values)) × (roomScalars ≤ length (now right)) × (roomStored ≤ length (now columns)) ⌝ }
     ensures { λ _. ⌜ Unpacks (now (bytes .entry)) (now (dims .entry)) (now (late .entry)) (now (perm .entry)) (now (starts .entry)) (now (rows .entry)) (now (values .entry)) (now (right .entry)) (now (dims .exit)) (now (late .exit)) (now (perm .exit)) (now (starts .exit)) (now (rows .exit)) (now (values .exit)) (now (right .exit)) ⌝ }
 {
     let n = night.blocks;
@@ -145,10 +148,10 @@ pub fn keep(
     values: &mut [f64],
     right: &mut [f64],
 )
-    requires { ⌜ Kept (now bytes) night × (128 ≤ length (now dims)) × (128 ≤ length (now late)) × (128 ≤ length (now perm)) × (129 ≤ length (now starts)) × (1024 ≤ length (now rows)) × (4096 ≤ length (now values)) × (512 ≤ length (now right)) ⌝ }
+    requires { ⌜ Kept (now bytes) night × (roomBlocks ≤ length (now dims)) × (roomBlocks ≤ length (now late)) × (roomBlocks ≤ length (now perm)) × (roomBlocks + 1 ≤ length (now starts)) × (roomStored ≤ length (now rows)) × (roomValues ≤ length (now values)) × (roomScalars ≤ length (now right)) ⌝ }
     ensures { λ _. ⌜ Unpacks (now (bytes .entry)) (now (dims .entry)) (now (late .entry)) (now (perm .entry)) (now (starts .entry)) (now (rows .entry)) (now (values .entry)) (now (right .entry)) (now (dims .exit)) (now (late .exit)) (now (perm .exit)) (now (starts .exit)) (now (rows .exit)) (now (values .exit)) (now (right .exit)) ⌝ }
 {
-    let mut columns = [0u32; 1024];
+    let mut columns = [0u32; ROOM_STORED];
     keep_in(
         bytes,
         night,

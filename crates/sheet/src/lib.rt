@@ -7,7 +7,9 @@ use crate::core::keep;
 use sheet_bytes::core::u32_at;
 pub use sheet_check::core::Night;
 use sheet_check::core::ROOM_BLOCKS;
+use sheet_check::core::ROOM_SCALARS;
 use sheet_check::core::ROOM_STORED;
+use sheet_check::core::ROOM_VALUES;
 pub use sheet_check::core::Sheet;
 use tables::core::wide;
 ghost use mathlib.Core.Path.{_≡_};
@@ -40,13 +42,13 @@ pub fn check(bytes: &[u8]) -> Sheet
 // The places beyond are as they were; under a refusal all are.
 pub fn read(
     bytes: &[u8],
-    dims: &mut [u32; 128],
-    late: &mut [u32; 128],
-    perm: &mut [u32; 128],
-    starts: &mut [u32; 129],
-    rows: &mut [u32; 1024],
-    values: &mut [f64; 4096],
-    right: &mut [f64; 512],
+    dims: &mut [u32; ROOM_BLOCKS],
+    late: &mut [u32; ROOM_BLOCKS],
+    perm: &mut [u32; ROOM_BLOCKS],
+    starts: &mut [u32; ROOM_BLOCKS + 1],
+    rows: &mut [u32; ROOM_STORED],
+    values: &mut [f64; ROOM_VALUES],
+    right: &mut [f64; ROOM_SCALARS],
 ) -> Sheet
     ensures { λ r. ⌜ Reads (now (bytes .entry)) (now (dims .entry)) (now (late .entry)) (now (perm .entry)) (now (starts .entry)) (now (rows .entry)) (now (values .entry)) (now (right .entry)) r (now (dims .exit)) (now (late .exit)) (now (perm .exit)) (now (starts .exit)) (now (rows .exit)) (now (values .exit)) (now (right .exit)) ⌝ }
 {
