@@ -1,20 +1,17 @@
--- The tables that stand in the first places of what is lent, what the checks say of them, and what is told of a sheet's head.
--- Assumes nothing.
-use Prim.Native.Nat.{ℕ, _+_, _*_, _≤_, _<_}
+-- What is told of a sheet's head, and what an outcome leaves in what is lent. Assumes nothing.
+use Prim.Native.Nat.{ℕ, _+_, _≤_, _<_}
 use mathlib.Core.Bool.{Bool, true, false}
-use mathlib.Core.List.{List, [], _∷_, _++_}
+use mathlib.Core.List.{List, [], _∷_}
 use mathlib.Core.Path.{_≡_, refl, sym, ap, ap₂, _∙_}
-use native.Mathlib.Omega.{arith}
 use lib.Ieee.{Float}
-use lib.ListN.{length, take, drop}
-use lib.Seq.{take-at}
+use lib.ListN.{length, drop}
 use Rattle.sheet_bytes.specs.Layout.{blocksOf, storedOf, tolOf, dimsOf, lateOf, permOf, contentsAt, bodiesAt}
 use Rattle.sheet_bytes.proofs.Laws.{length-u32s}
 use Rattle.refusal.specs.Refusal.{Told, accepted, refuses, verdict, firstOf, badSheet, noRoom}
 use Rattle.refusal.proofs.Laws.{first-passes, both-pass}
 use Rattle.tables.specs.Verdict.{areas}
 use Rattle.contents.specs.Contents.{startsFrom}
-use Rattle.sheet_check.specs.Checks.{roomBlocks, roomStored, tableChecks, nightTold, toldAfter, Unpacked}
+use Rattle.sheet_check.specs.Checks.{roomBlocks, roomStored, nightTold}
 use Rattle.sheet_check.specs.Sheet.{width, rowsOf, columnsOf, offsetsOf, valueCount, scalarsOf, sheetChecks, sheetVerdict, startsOf, valuesOf, rightSideOf}
 use Rattle.sheet_check.specs.Outcome.{told, sheetTold}
 use Rattle.sheet_check.specs.declared.core.Night.{Night}
@@ -22,58 +19,9 @@ use Rattle.sheet_check.specs.declared.core.Sheet.{Sheet}
 use Rattle.sheet_check.specs.declared.core.Sheet.the-variants as sheet
 use Rattle.sheet_check.proofs.Laws.{told-stops, told-goes, room-stop, room-go, cut-stop, cut-go}
 use Rattle.sheet_check.proofs.Sound.{sheet-sound}
-use Rattle.sheet.specs.Reads.{Headed, Kept, Reads, Unpacks, tablesTold, Holds}
-
--- the first n of a list that begins with n entries
-pub part-of : {A : Type 0} (n : ℕ) (xs ys whole : List A) → whole ≡ xs ++ ys → length xs ≡ n → take n whole ≡ xs
-part-of n xs ys whole e l = ap (take n) e ∙ take-at xs ys n l
-
--- ---- lists that hold the tables of a sheet
-
-pub record Same (s dims late perm rows columns offsets : List ℕ) : Type 0 where
-  pub of-dims : dims ≡ dimsOf s
-  pub of-late : late ≡ lateOf s
-  pub of-perm : perm ≡ permOf s
-  pub of-rows : rows ≡ rowsOf s
-  pub of-columns : columns ≡ columnsOf s
-  pub of-offsets : offsets ≡ offsetsOf s
-
-module _ (s : List ℕ) (n m : ℕ) (h : Headed s n m) where
-  -- how long they are
-  pub dims-length : length (dimsOf s) ≡ n
-  dims-length = length-u32s s 16 8 (blocksOf s) ∙ sym (h .blocks)
-
-  pub late-length : length (lateOf s) ≡ n
-  late-length = length-u32s s 20 8 (blocksOf s) ∙ sym (h .blocks)
-
-  pub perm-length : length (permOf s) ≡ n
-  perm-length = length-u32s s (16 + 8 * blocksOf s) 4 (blocksOf s) ∙ sym (h .blocks)
-
-  pub rows-length : length (rowsOf s) ≡ m
-  rows-length = length-u32s s (contentsAt s) width (storedOf s) ∙ sym (h .stored)
-
-  pub columns-length : length (columnsOf s) ≡ m
-  columns-length = length-u32s s (contentsAt s + 4) width (storedOf s) ∙ sym (h .stored)
-
-  pub offsets-length : length (offsetsOf s) ≡ m
-  offsets-length = length-u32s s (contentsAt s + 8) width (storedOf s) ∙ sym (h .stored)
-
-  module _ (dims late perm rows columns offsets : List ℕ) (e : Same s dims late perm rows columns offsets) where
-    pub unpacked : Unpacked dims rows columns offsets (16 + 12 * n + 12 * m)
-    unpacked =
-        record {
-          blocks = omega (arith, ap length (e .of-dims), dims-length, h .few-blocks);
-          as-rows = omega (arith, ap length (e .of-rows), rows-length, ap length (e .of-columns), columns-length);
-          as-offsets = omega (arith, ap length (e .of-offsets), offsets-length, ap length (e .of-columns), columns-length);
-          few = omega (arith, ap length (e .of-columns), columns-length, h .few-stored);
-          near = omega (arith, h .few-blocks, h .few-stored);
-        }
-
-    bodies-at : 16 + 12 * n + 12 * m ≡ bodiesAt width s
-    bodies-at = omega (arith, h .blocks, h .stored)
-
-    pub told-same : (tol : Float) → tol ≡ tolOf s → toldAfter dims late perm rows columns offsets tol (16 + 12 * n + 12 * m) (length s) (tableChecks dims late perm rows columns offsets tol (16 + 12 * n + 12 * m) (length s)) ≡ tablesTold s
-    told-same tol t = rw (e .of-dims, e .of-late, e .of-perm, e .of-rows, e .of-columns, e .of-offsets, t, bodies-at)
+use Rattle.sheet_unpack.specs.Unpack.{Kept, Unpacks, tablesTold}
+use Rattle.sheet_unpack.proofs.Laws.{part-of}
+use Rattle.sheet.specs.Reads.{Reads, Holds}
 
 -- ---- the head of a sheet: what is told where one of its tests fails, and where all hold
 

@@ -1,9 +1,5 @@
 // A sheet read into tables, whatever its bytes are: accepted, or refused in the order of the program `fit`. What the bytes of a sheet
 // hold, and the verdict, are in specs/Sheet.antt of sheet_check.
-pub mod core;
-
-use crate::core::check_tables;
-use crate::core::keep;
 use sheet_bytes::core::u32_at;
 pub use sheet_check::core::Night;
 use sheet_check::core::ROOM_BLOCKS;
@@ -11,6 +7,8 @@ use sheet_check::core::ROOM_SCALARS;
 use sheet_check::core::ROOM_STORED;
 use sheet_check::core::ROOM_VALUES;
 pub use sheet_check::core::Sheet;
+use sheet_unpack::core::check_tables;
+use sheet_unpack::core::keep;
 use tables::core::wide;
 ghost use mathlib.Core.Path.{_≡_};
 ghost use Rattle.sheet_check.specs.Outcome.{told, sheetTold};

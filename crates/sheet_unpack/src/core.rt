@@ -15,7 +15,7 @@ ghost use lib.ListN.{length, take, drop};
 ghost use Rattle.contents.specs.Contents.{startsFrom};
 ghost use Rattle.sheet_check.specs.Checks.{roomBlocks, roomScalars, roomStored, roomValues};
 ghost use Rattle.sheet_check.specs.Outcome.{told};
-ghost use Rattle.sheet.specs.Reads.{Headed, Kept, Parts, Unpacks, tablesTold};
+ghost use Rattle.sheet_unpack.specs.Unpack.{Headed, Kept, Parts, Unpacks, tablesTold};
 
 // The dimensions, late flags and permutation of n blocks, and the rows and columns of m stored ones, into the first places of what is
 // lent.

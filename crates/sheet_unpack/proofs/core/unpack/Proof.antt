@@ -1,4 +1,4 @@
--- `sheet::core::unpack` meets its contract: each table is the sheet's, since n and m are. Assumes nothing.
+-- `sheet_unpack::core::unpack` meets its contract: each table is the sheet's, since n and m are. Assumes nothing.
 use Prim.Native.Nat.{ℕ, _+_, _*_}
 use mathlib.Core.List.{_++_}
 use mathlib.Core.Path.{ap, ap₂, _∙_}
@@ -6,8 +6,8 @@ use lib.ListN.{drop}
 use denote.Ref.{now}
 use Rattle.sheet_bytes.specs.Layout.{u32s}
 use borrow.Author.Needs.{needs}
-use Rattle.sheet.proofs.core.unpack.Statement.{statement}
-use Rattle.sheet.proofs.core.unpack.Tie as tie
+use Rattle.sheet_unpack.proofs.core.unpack.Statement.{statement}
+use Rattle.sheet_unpack.proofs.core.unpack.Tie as tie
 
 returns : tie.Need-returns
 returns c =

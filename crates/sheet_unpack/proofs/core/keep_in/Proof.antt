@@ -1,4 +1,4 @@
--- `sheet::core::keep_in` meets its contract: each table and each run of numbers is the sheet's. Assumes nothing.
+-- `sheet_unpack::core::keep_in` meets its contract: each table and each run of numbers is the sheet's. Assumes nothing.
 use Prim.Native.Nat.{ℕ, _+_, _*_}
 use mathlib.Core.List.{List, _++_}
 use mathlib.Core.Path.{_≡_, ap, ap₂, _∙_}
@@ -8,11 +8,11 @@ use denote.Ref.{now}
 use Rattle.sheet_bytes.specs.Layout.{f64s, dimsOf, lateOf, permOf, bodiesAt}
 use Rattle.sheet_check.specs.Sheet.{width, rowsOf, columnsOf}
 use Rattle.contents.specs.Contents.{startsFrom}
-use Rattle.sheet.specs.Reads.{Headed}
-use Rattle.sheet.proofs.Laws.{part-of, columns-length}
+use Rattle.sheet_unpack.specs.Unpack.{Headed}
+use Rattle.sheet_unpack.proofs.Laws.{part-of, columns-length}
 use borrow.Author.Needs.{needs}
-use Rattle.sheet.proofs.core.keep_in.Statement.{statement}
-use Rattle.sheet.proofs.core.keep_in.Tie as tie
+use Rattle.sheet_unpack.proofs.core.keep_in.Statement.{statement}
+use Rattle.sheet_unpack.proofs.core.keep_in.Tie as tie
 
 headed : (c : tie.Start) → Headed (now (c .args .bytes)) (c .args .night .blocks) (c .args .night .stored)
 headed c =

@@ -1,4 +1,4 @@
--- `sheet::core::check_in` meets its contract: the tables lent on are the sheet's. Assumes nothing.
+-- `sheet_unpack::core::check_in` meets its contract: the tables lent on are the sheet's. Assumes nothing.
 use Prim.Native.Nat.{ℕ, _+_, _*_}
 use mathlib.Core.List.{_++_}
 use mathlib.Core.Path.{sym, ap, ap₂, _∙_}
@@ -8,10 +8,10 @@ use lib.Seq.{length-take-le}
 use denote.Ref.{now}
 use Rattle.sheet_bytes.specs.Layout.{u32s, dimsOf, lateOf, permOf}
 use Rattle.sheet_check.specs.Sheet.{rowsOf, columnsOf, offsetsOf}
-use Rattle.sheet.proofs.Laws.{part-of, Same, dims-length, late-length, perm-length, rows-length, columns-length, offsets-length, unpacked, told-same}
+use Rattle.sheet_unpack.proofs.Laws.{part-of, Same, dims-length, late-length, perm-length, rows-length, columns-length, offsets-length, unpacked, told-same}
 use borrow.Author.Needs.{needs}
-use Rattle.sheet.proofs.core.check_in.Statement.{statement}
-use Rattle.sheet.proofs.core.check_in.Tie as tie
+use Rattle.sheet_unpack.proofs.core.check_in.Statement.{statement}
+use Rattle.sheet_unpack.proofs.core.check_in.Tie as tie
 
 -- the tables that are lent on
 same : (c : tie.After-by-table-arg7) → let x = c .before .before .before .before .before .before .before .before .before .before .before .before .before .before .before .before .before .before .before .before .before .before .before .before .before .before .before .before .before .before .before .before .before .before .before .before .args in let u = c .before .before .before .before .before .before .before .before .before .before .before .before .before .before .before .before .before .before .before .before .before .before .unpack .last in

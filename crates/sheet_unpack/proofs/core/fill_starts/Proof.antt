@@ -1,4 +1,4 @@
--- `sheet::core::fill_starts` meets its contract: the starts stand in the places that are lent on. Assumes nothing.
+-- `sheet_unpack::core::fill_starts` meets its contract: the starts stand in the places that are lent on. Assumes nothing.
 use Prim.Native.Nat.{ℕ, _+_}
 use mathlib.Core.List.{List, _++_}
 use mathlib.Core.Path.{sym, ap}
@@ -7,8 +7,8 @@ use lib.ListN.{drop}
 use lib.Seq.{length-take-le}
 use denote.Ref.{now}
 use borrow.Author.Needs.{needs}
-use Rattle.sheet.proofs.core.fill_starts.Statement.{statement}
-use Rattle.sheet.proofs.core.fill_starts.Tie as tie
+use Rattle.sheet_unpack.proofs.core.fill_starts.Statement.{statement}
+use Rattle.sheet_unpack.proofs.core.fill_starts.Tie as tie
 
 slice-aggregate-make-starts : tie.Need-slice-aggregate-make-starts
 slice-aggregate-make-starts c = sym (length-take-le (c .before .before .before .args .m) (c .before .before .before .args .columns .now) (c .before .before .before .pre .0))

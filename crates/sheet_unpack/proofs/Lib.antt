@@ -1,0 +1,2 @@
+-- The laws of unpacked tables.
+pub mod Laws

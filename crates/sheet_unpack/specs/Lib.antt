@@ -1,0 +1,2 @@
+-- What the contracts of `sheet_unpack` cite.
+pub mod Unpack
