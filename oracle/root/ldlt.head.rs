@@ -3,6 +3,7 @@ use std::marker::PhantomData;
 
 pub(crate) mod block_diag_ldlt;
 pub mod block_sparse_ldlt;
+mod block_sparse_solve;
 pub(crate) mod dense_bunch_kaufman;
 pub(crate) mod dense_ldlt;
 pub(crate) mod elimination_tree;

@@ -20,6 +20,12 @@ impl snafu::IntoError<BlockSparseLdltError> for BlockDiagLdltSnafu {
     }
 }
 
+// The part of the trait that the factor's solve stands under.
+pub trait IsFactor {
+    type Matrix;
+    fn solve_inplace(&self, b: &mut nalgebra::DVector<f64>) -> Result<(), LinearSolverError>;
+}
+
 pub fn fell_back(system: &ldlt::BlockDiagonalLdltSystem) -> bool {
     system.used_bk_fallback
 }

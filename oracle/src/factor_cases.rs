@@ -38,7 +38,7 @@ const BLOCK: usize = 11;
 const HAND: usize = 12;
 const LARGE: usize = 13;
 const FAULT: usize = 14;
-const LENT: usize = 15;
+pub const LENT: usize = 15;
 
 /// Each buffer longer than its need by these, and by nothing.
 const OVER: [i64; BUFFERS] = [3, 1, 2, 4, 1, 2, 3, 5, 1, 2, 3, 1, 2, 4, 3, 1, 2, 3, 1, 4, 2];

@@ -167,7 +167,7 @@ pub fn run(case: &Case, fallbacks: &mut Fallbacks) -> Answer {
 }
 
 /// The matrix that the tables describe, with the values bit for bit: `to_compressed` would add each to 0.0.
-fn filled(night: &Night) -> BlockSparseMatrix {
+pub fn filled(night: &Night) -> BlockSparseMatrix {
     let t = &night.tables;
     let mut made = matrix(t);
     let bodies = bodies(t);
@@ -251,7 +251,7 @@ fn numeric(night: &Night, plan: &Plan, fallbacks: &mut Fallbacks) -> Worked {
 
 /// The first diagonal block that the source's steps come to and that 13 or 14 meets: `decompose` keeps its record to itself, so
 /// the record is that of the dense routine on the same numbers, the call that `decompose` makes.
-fn met(a_lower: &BlockSparseMatrix, perm: Vec<usize>, tolerance: f64) -> Option<Worked> {
+pub fn met(a_lower: &BlockSparseMatrix, perm: Vec<usize>, tolerance: f64) -> Option<Worked> {
     let mut met = None;
     block_sparse_ldlt::watch(a_lower, perm, tolerance, |block, view: DMatrixView<'_, f64>| {
         let n = view.nrows();

@@ -1,4 +1,5 @@
-//! Runs the source on every case and writes the three lists with their tables: `answers LIST TABLE PLANS TABLE FACTORS TABLE`.
+//! Runs the source on every case and writes the four lists with their tables: `answers LIST TABLE PLANS TABLE FACTORS TABLE SHEETS
+//! TABLE`. `answers --drawn SEED COUNT LIST` writes a list of drawn sheets.
 mod cases;
 mod factor_cases;
 mod factor_list;
@@ -7,6 +8,9 @@ mod plan_cases;
 mod plan_list;
 mod plans;
 mod run;
+mod sheet_cases;
+mod sheet_list;
+mod sheets;
 mod table;
 mod values;
 
@@ -44,8 +48,16 @@ fn main() {
         exit(1);
     }
     let to: Vec<String> = std::env::args().skip(1).collect();
-    let [list, table, plans, plans_table, factors, factors_table] = &to[..] else {
-        eprintln!("answers LIST TABLE PLANS TABLE FACTORS TABLE");
+    if let [drawn, seed, count, list] = &to[..] {
+        let (Ok(seed), Ok(count), "--drawn") = (seed.parse(), count.parse(), drawn.as_str()) else {
+            eprintln!("answers --drawn SEED COUNT LIST");
+            exit(2);
+        };
+        std::fs::write(list, sheet_list::drawn_list(seed, count)).expect("the list of drawn sheets is written");
+        return;
+    }
+    let [list, table, plans, plans_table, factors, factors_table, sheets, sheets_table] = &to[..] else {
+        eprintln!("answers LIST TABLE PLANS TABLE FACTORS TABLE SHEETS TABLE");
         exit(2);
     };
     let mut bytes: Vec<u8> = vec![];
@@ -90,4 +102,7 @@ fn main() {
     let (bytes, text) = factor_list::list();
     std::fs::write(factors, bytes).expect("the list of factors is written");
     std::fs::write(factors_table, text).expect("its table is written");
+    let (bytes, text) = sheet_list::list();
+    std::fs::write(sheets, bytes).expect("the list of sheets is written");
+    std::fs::write(sheets_table, text).expect("its table is written");
 }

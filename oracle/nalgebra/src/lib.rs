@@ -62,15 +62,19 @@ impl<T> Index<usize> for RowView<'_, T> {
     }
 }
 
-// The long name of a view, which the source spells out once.
+// The long names of two views, which the source spells out once each.
 pub struct Dyn;
 pub struct Const<const N: usize>;
 pub struct ViewStorage<'a, T, R, C, RS, CS>(PhantomData<(&'a T, R, C, RS, CS)>);
+pub struct ViewStorageMut<'a, T, R, C, RS, CS>(PhantomData<(&'a T, R, C, RS, CS)>);
 pub trait Named<T> {
     type Is;
 }
 impl<'a, T> Named<T> for (Dyn, Dyn, ViewStorage<'a, T, Dyn, Dyn, Const<1>, Dyn>) {
     type Is = DMatrixView<'a, T>;
+}
+impl<'a, T: 'a> Named<T> for (Dyn, Const<1>, ViewStorageMut<'a, T, Dyn, Const<1>, Const<1>, Dyn>) {
+    type Is = DVectorViewMut<'a, T>;
 }
 pub type Matrix<T, R, C, S> = <(R, C, S) as Named<T>>::Is;
 
@@ -324,6 +328,12 @@ impl DVector<f64> {
 impl<T: Clone> DVector<T> {
     pub fn fill(&mut self, value: T) {
         self.numbers.fill(value);
+    }
+    pub fn from_column_slice(numbers: &[T]) -> Self {
+        Self { numbers: numbers.to_vec() }
+    }
+    pub fn copy_from(&mut self, from: &Self) {
+        self.numbers.clone_from_slice(&from.numbers);
     }
 }
 
