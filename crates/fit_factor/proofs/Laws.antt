@@ -93,13 +93,13 @@ module _ (a : System) (passes : systemVerdict (a .dims) (a .starts) (a .rows) (a
   sizes : Sizes (a .dims)
   sizes = system-sound _ _ _ _ _ _ _ (ap refuses passes) .plan .sizes
 
-  units-few : unitsNeed (a .dims) ≤ 8192
+  pub units-few : unitsNeed (a .dims) ≤ 8192
   units-few = omega (arith, ap (before (squares (a .dims))) (length-squares (a .dims)), squares-most (a .dims) sizes (blocks a), scalars)
 
-  work-few : workNeed (a .dims) ≤ 8192
+  pub work-few : workNeed (a .dims) ≤ 8192
   work-few = mul-le-mul scalars (widest-small (a .dims) sizes)
 
-  stored-few : stored a ≤ 8128
+  pub stored-few : stored a ≤ 8128
   stored-few = omega (arith, plan-stored (links a) (blocks a) (links-symm a), stored-half (plan-columns (links a) (blocks a) (links-symm a)), mul-le-mul-left (blocks a) few)
 
 -- where each need is met, nothing is short

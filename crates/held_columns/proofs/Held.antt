@@ -24,7 +24,7 @@ use Rattle.buckets.proofs.Laws.{sum-snoc}
 use Rattle.buckets.proofs.Turns.{before-next}
 use Rattle.scalars.specs.Scalars.{scalarStarts, scalarCount}
 use Rattle.scalars.proofs.ScalarLaws.{starts-at, nothing-before}
-use Rattle.scalars.proofs.BodyLaws.{offset-first, offset-next, offsets-at}
+use Rattle.scalars.proofs.BodyLaws.{offset-first, offset-next, offsets-at, length-offsets}
 use Rattle.layout.proofs.DiagonalLaws.{length-squares, squares-at}
 use Rattle.machine.specs.System.{System, blocks, links, order}
 use Rattle.machine.specs.Machine as machine
@@ -35,10 +35,10 @@ use Rattle.block_product.specs.Working.{slot}
 use Rattle.layout.specs.Layout.{Tables, tablesOf, startOf, stopOf, rowsAt, squares, unitStartsOf, unitsNeed}
 use Rattle.layout.proofs.Gathered.{gather-slot, gather-runs}
 use Rattle.layout.proofs.RowLaws.{area-is}
-use Rattle.layout.proofs.PlanLaws.{plan-columns, plan-rows, plan-numbers}
+use Rattle.layout.proofs.PlanLaws.{plan-columns, plan-rows, plan-stored, plan-numbers}
 use Rattle.factor_tables.proofs.NeedLaws.{same-units, same-scalars}
 use Rattle.factor_tables.proofs.TableLaws.{sizes-count}
-use Rattle.factor_setup.specs.Exact.{sizes, numbers, lStarts, lRows, lOffsets, valuesAfter, unitsAfter, pivotsAfter}
+use Rattle.factor_setup.specs.Exact.{sizes, stored, numbers, lStarts, lRows, lOffsets, valuesAfter, unitsAfter, pivotsAfter}
 use Rattle.solution.specs.Flat.{HoldsColumns}
 use Rattle.held_columns.proofs.Sized.{ColumnSized, run-sized}
 
@@ -172,6 +172,13 @@ module _ (a : System) (sound : SystemSound (a .dims) (a .starts) (a .rows) (a .v
   values-long =
       ap length values-are ∙ (all-long bodyAt (at (lOffsets a)) (areaAt (sizes a) (lStarts a) (lRows a)) (length (lRows a)) bodies-first bodies-next body-length
       ∙ (offsets-at (sizes a) (lStarts a) (lRows a) (length (lRows a)) (omega arith) ∙ areas-are))
+
+  -- how long L's tables are
+  pub rows-long : length (lRows a) ≡ stored a
+  rows-long = plan-stored (links a) n (links-symm a)
+
+  pub offsets-long : length (lOffsets a) ≡ stored a + 1
+  offsets-long = length-offsets (sizes a) (lStarts a) (lRows a) ∙ ap (λ (m : ℕ). m + 1) rows-long
 
   -- ---- all of it
 
