@@ -11,7 +11,7 @@ use lib.Ieee.{Float}
 use lib.ListN.{length, getD}
 use lib.Dec.{ltb}
 use borrow.Author.Tests.{lt-ltb, le-ltb}
-use Rattle.refusal.specs.Refusal.{Told, number, done, shortBuffer, noRoom, refuses, firstOf, verdict, verdictAfter, after}
+use Rattle.refusal.specs.Refusal.{Told, tells, number, done, shortBuffer, noRoom, refuses, firstOf, verdict, verdictAfter, after}
 use Rattle.refusal.specs.Check as need
 use Rattle.refusal.proofs.Laws.{verdict-stops, verdict-goes, need-short, need-met}
 use Rattle.buckets.specs.Buckets.{before}
@@ -53,6 +53,15 @@ finish-number a j s t e = go (blockLdlt (dim a j) (a .tol) (bodyOr _ (s .work j)
     go (Accepted r, unit, d) p = absurd (let z : _≡_ {A = ℕ} 0 1 = cc in omega arith)
     go (NotFinite place pivot, unit, d) p = inl (ap number (out _ p))
     go (Poor condition, unit, d) p = inr (ap number (out _ p))
+
+-- so a run that stopped is refused
+pub stopped-refuses : (a : System) (t : Told) → run a ≡ stopped t → refuses t ≡ true
+stopped-refuses a t e = let r = stops a t .0 e in go t (finish-number a (r .0) _ t (r .2 .refusal))
+  where
+    go : (t : Told) → (number t ≡ 13) ⊎ (number t ≡ 14) → refuses t ≡ true
+    go (tells zero is xs) (inl e) = absurd (omega arith)
+    go (tells zero is xs) (inr e) = absurd (omega arith)
+    go (tells (suc n) is xs) e = refl
 
 module _ (a : System) where
   -- an accepted run, or 13, or 14
