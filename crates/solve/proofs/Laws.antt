@@ -43,6 +43,7 @@ passed (variant.LStarts place) e = cc
 passed variant.Stored e = cc
 passed (variant.Row place) e = cc
 passed (variant.LRow place) e = cc
+passed (variant.Parent block) e = cc
 passed (variant.Order place) e = cc
 passed (variant.LOrder place) e = cc
 passed variant.LValues e = cc
@@ -52,7 +53,7 @@ passed (variant.Short which need) e = cc
 passed (variant.Mismatch place) e = cc
 passed (variant.Missing column) e = cc
 passed (variant.Extra column) e = cc
-passed (variant.Parent column) e = cc
+passed (variant.OtherParent column) e = cc
 
 -- the first of two verdicts where the one before it refuses, and where it passes
 pub stops-first : {t v : Told} (next : Told) → t ≡ v → refuses t ≡ true → t ≡ firstOf v next
@@ -70,14 +71,14 @@ needs-worked dims x y scalarPerm sizes starts all e =
 -- ---- sound tables
 
 -- the factor's columns by the number of blocks
-pub l-columns : (dims starts rows perm late lStarts lRows : List ℕ) (lValues : List Float) → SolveSound dims starts rows perm late lStarts lRows lValues → Columns pastDiagonal (length dims) lStarts lRows
-l-columns dims starts rows perm late lStarts lRows lValues s =
+pub l-columns : (dims starts rows perm late parents lStarts lRows : List ℕ) (lValues : List Float) → SolveSound dims starts rows perm late parents lStarts lRows lValues → Columns pastDiagonal (length dims) lStarts lRows
+l-columns dims starts rows perm late parents lStarts lRows lValues s =
     subst (λ (n : ℕ). Columns pastDiagonal n lStarts lRows) (sizes-count dims (moved perm late) (moved-permutes perm late (length dims) (s .plan .permutes))) (s .factor .columns)
 
 module _ (a : Call) where
   -- the three parts of the verdict
   abbrev tablesPart : Told
-  tablesPart = solveVerdict (a .dims) (a .starts) (a .rows) (a .perm) (a .late) (a .lStarts) (a .lRows) (a .lValues)
+  tablesPart = solveVerdict (a .dims) (a .starts) (a .rows) (a .perm) (a .late) (a .parents) (a .lStarts) (a .lRows) (a .lValues)
 
   abbrev needsPart : Told
   needsPart = verdict (needChecks (lentList (a .dims) (length (a .x)) (length (a .y)) (length (a .scalarPerm)) (length (a .sizes)) (length (a .scalarStarts))))
@@ -93,11 +94,11 @@ module _ (a : Call) where
       (p .0, q .0, q .1)
 
   module _ (e : refuses (verdictOf a) ≡ false) where
-    sound : SolveSound (a .dims) (a .starts) (a .rows) (a .perm) (a .late) (a .lStarts) (a .lRows) (a .lValues)
-    sound = solve-sound (a .dims) (a .starts) (a .rows) (a .perm) (a .late) (a .lStarts) (a .lRows) (a .lValues) (parts e .0)
+    sound : SolveSound (a .dims) (a .starts) (a .rows) (a .perm) (a .late) (a .parents) (a .lStarts) (a .lRows) (a .lValues)
+    sound = solve-sound (a .dims) (a .starts) (a .rows) (a .perm) (a .late) (a .parents) (a .lStarts) (a .lRows) (a .lValues) (parts e .0)
 
     columns : Columns pastDiagonal (length (a .dims)) (a .lStarts) (a .lRows)
-    columns = l-columns (a .dims) (a .starts) (a .rows) (a .perm) (a .late) (a .lStarts) (a .lRows) (a .lValues) sound
+    columns = l-columns (a .dims) (a .starts) (a .rows) (a .perm) (a .late) (a .parents) (a .lStarts) (a .lRows) (a .lValues) sound
 
     pub is-fresh : FreshFactor a
     is-fresh =

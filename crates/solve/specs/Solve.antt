@@ -6,7 +6,7 @@ use mathlib.Core.Path.{_≡_}
 use lib.Ieee.{Float}
 use lib.ListN.{length, drop, replicate}
 use Rattle.scalar.specs.Block.{zeros}
-use Rattle.refusal.specs.Refusal.{Told, done, tooManyBlocks, badDimension, badStarts, tooManyStored, outOfRange, notIncreasing, badValueCount, badPermutation, badLateFlags, shortBuffer, shapesDisagree, refuses, firstOf, verdict, after}
+use Rattle.refusal.specs.Refusal.{Told, done, tooManyBlocks, badDimension, badStarts, tooManyStored, outOfRange, badParent, notIncreasing, badValueCount, badPermutation, badLateFlags, shortBuffer, shapesDisagree, refuses, firstOf, verdict, after}
 use Rattle.needs.specs.Needs.{Lent, lentFrom, needChecks}
 use Rattle.order.specs.Order.{sizesOf}
 use Rattle.scalars.specs.Scalars.{scalarCount}
@@ -30,6 +30,7 @@ told (variant.LStarts place) = badFactor 3 place
 told variant.Stored = tooManyStored
 told (variant.Row place) = outOfRange place
 told (variant.LRow place) = badFactor 5 place
+told (variant.Parent block) = badParent block
 told (variant.Order place) = notIncreasing place
 told (variant.LOrder place) = badFactor 6 place
 told variant.LValues = badValueCount
@@ -39,7 +40,7 @@ told (variant.Short which need) = shortBuffer which need
 told (variant.Mismatch place) = shapesDisagree place
 told (variant.Missing column) = badColumn 8 column 0
 told (variant.Extra column) = badColumn 8 column 1
-told (variant.Parent column) = badColumn 6 column 2
+told (variant.OtherParent column) = badColumn 6 column 2
 
 -- ---- the verdict
 
@@ -51,7 +52,7 @@ lentList dims x y scalarPerm sizes scalarStarts =
 -- 1 to 9 on the tables, then 11, then 12. What is not read is handed over by its length.
 unfoldable pub callVerdict : (dims starts rows perm late order parents lStarts lRows lOffsets : List ℕ) → (lValues : List Float) → (diag d x y scalarPerm sizes scalarStarts : ℕ) → Told
 callVerdict dims starts rows perm late order parents lStarts lRows lOffsets lValues diag d x y scalarPerm sizes scalarStarts =
-    firstOf (solveVerdict dims starts rows perm late lStarts lRows lValues)
+    firstOf (solveVerdict dims starts rows perm late parents lStarts lRows lValues)
     (firstOf (verdict (needChecks (lentList dims x y scalarPerm sizes scalarStarts))) (matchVerdict dims starts rows perm late order parents lStarts lRows lOffsets diag d x))
 
 -- ---- the promise

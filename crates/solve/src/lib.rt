@@ -35,6 +35,8 @@ pub enum Solved {
     Row { place: usize },
     // 5: the entry of the factor's row table.
     LRow { place: usize },
+    // 5: the block, by new number, whose parent is neither none nor a greater block.
+    Parent { block: usize },
     // 6: the entry of A's row table.
     Order { place: usize },
     // 6: the entry of the factor's row table.
@@ -53,8 +55,8 @@ pub enum Solved {
     Missing { column: usize },
     // 12: it lacks none, and lists a row too many.
     Extra { column: usize },
-    // 12: its rows are right, and its parent is not.
-    Parent { column: usize },
+    // 12: its rows are right, and its parent is another than the system has there.
+    OtherParent { column: usize },
 }
 
 // The solution of A x = b with the factor L D Lᵀ that `factorize` made of A: forward columns ascending, blocks, backward columns
@@ -162,7 +164,17 @@ fn check_call(
 ) -> Solved
     ensures { λ r. ⌜ told r ≡ callVerdict (now (dims .entry)) (now (starts .entry)) (now (rows .entry)) (now (perm .entry)) (now (late .entry)) (now (order .entry)) (now (parents .entry)) (now («l_starts» .entry)) (now («l_rows» .entry)) (now («l_offsets» .entry)) (now («l_values» .entry)) diag d x y «scalar_perm» sizes «scalar_starts» ⌝ }
 {
-    let tables = check_solve(dims, starts, rows, perm, late, l_starts, l_rows, l_values);
+    let tables = check_solve(
+        dims,
+        starts,
+        rows,
+        perm,
+        late,
+        parents,
+        l_starts,
+        l_rows,
+        l_values,
+    );
     match tables {
         SolveTables::Accepted(_) => lent_core(
             dims,
@@ -190,6 +202,7 @@ fn check_call(
         SolveTables::Stored => Solved::Stored,
         SolveTables::Row { place } => Solved::Row { place },
         SolveTables::LRow { place } => Solved::LRow { place },
+        SolveTables::Parent { block } => Solved::Parent { block },
         SolveTables::Order { place } => Solved::Order { place },
         SolveTables::LOrder { place } => Solved::LOrder { place },
         SolveTables::LValues => Solved::LValues,
@@ -286,7 +299,7 @@ fn match_core(
         Matched::Mismatch { place } => Solved::Mismatch { place },
         Matched::Missing { column } => Solved::Missing { column },
         Matched::Extra { column } => Solved::Extra { column },
-        Matched::Parent { column } => Solved::Parent { column },
+        Matched::Parent { column } => Solved::OtherParent { column },
     }
 }
 
@@ -303,6 +316,7 @@ fn refused(answer: Solved) -> bool
         Solved::Stored => true,
         Solved::Row { place: _ } => true,
         Solved::LRow { place: _ } => true,
+        Solved::Parent { block: _ } => true,
         Solved::Order { place: _ } => true,
         Solved::LOrder { place: _ } => true,
         Solved::LValues => true,
@@ -312,6 +326,6 @@ fn refused(answer: Solved) -> bool
         Solved::Mismatch { place: _ } => true,
         Solved::Missing { column: _ } => true,
         Solved::Extra { column: _ } => true,
-        Solved::Parent { column: _ } => true,
+        Solved::OtherParent { column: _ } => true,
     }
 }

@@ -11,22 +11,22 @@ use Rattle.refusal.specs.Refusal.{refuses}
 use Rattle.refusal.proofs.Laws.{all-pass}
 use Rattle.tables.specs.Verdict.{fromDiagonal, pastDiagonal}
 use Rattle.tables.specs.Sound.{Columns}
-use Rattle.tables.proofs.CheckLaws.{blocks-pass, dims-pass, starts-pass, stored-pass, rows-pass, order-pass, values-pass, perm-pass, late-pass}
-use Rattle.tables.proofs.TableLaws.{sizes-of, ordered-of, columns-of, stored-half, stored-limit, permutes-of, flags-of}
+use Rattle.tables.proofs.CheckLaws.{blocks-pass, dims-pass, starts-pass, stored-pass, rows-pass, parents-pass, order-pass, values-pass, perm-pass, late-pass}
+use Rattle.tables.proofs.TableLaws.{sizes-of, ordered-of, columns-of, stored-half, stored-limit, permutes-of, flags-of, parents-of}
 use Rattle.factor_tables.proofs.TableLaws.{sizes-count, sizes-sound}
 use Rattle.solve_checks.specs.Verdict.{solveChecks, solveVerdict}
 use Rattle.solve_checks.specs.Sound.{SolveSound}
 use Rattle.solve_checks.proofs.CheckLaws.{l-starts-pass, l-rows-pass, l-order-pass}
 
-pub solve-sound : (dims starts rows perm late lStarts lRows : List ℕ) (lValues : List Float) → refuses (solveVerdict dims starts rows perm late lStarts lRows lValues) ≡ false
-    → SolveSound dims starts rows perm late lStarts lRows lValues
+pub solve-sound : (dims starts rows perm late parents lStarts lRows : List ℕ) (lValues : List Float) → refuses (solveVerdict dims starts rows perm late parents lStarts lRows lValues) ≡ false
+    → SolveSound dims starts rows perm late parents lStarts lRows lValues
 unfolding solveVerdict
-solve-sound dims starts rows perm late lStarts lRows lValues e =
+solve-sound dims starts rows perm late parents lStarts lRows lValues e =
     let n = length dims in
-    let p = all-pass (solveChecks dims starts rows perm late lStarts lRows lValues) e in
+    let p = all-pass (solveChecks dims starts rows perm late parents lStarts lRows lValues) e in
     let p3 = p .1 .1 in
     let p5 = p3 .1 .1 .1 in
-    let p6 = p5 .1 .1 in
+    let p6 = p5 .1 .1 .1 in
     let p8 = p6 .1 .1 in
     let few = blocks-pass n (p .0) in
     let s = sizes-of dims (dims-pass dims (p .1 .0)) in
@@ -56,4 +56,5 @@ solve-sound dims starts rows perm late lStarts lRows lValues e =
             stored = stored-limit c few;
             counted = values-pass _ _ _ _ (p8 .1 .1 .0);
           };
+      tree = parents-of parents (parents-pass parents (p5 .1 .1 .0));
     }

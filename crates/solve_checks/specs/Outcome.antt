@@ -1,5 +1,5 @@
 -- What the outcome of the check says, in document 01's words. Assumes nothing.
-use Rattle.refusal.specs.Refusal.{Told, done, tooManyBlocks, badDimension, badStarts, tooManyStored, outOfRange, notIncreasing, badValueCount, badPermutation, badLateFlags}
+use Rattle.refusal.specs.Refusal.{Told, done, tooManyBlocks, badDimension, badStarts, tooManyStored, outOfRange, badParent, notIncreasing, badValueCount, badPermutation, badLateFlags}
 use Rattle.solve_checks.specs.Verdict.{badFactor}
 use Rattle.solve_checks.specs.declared.SolveTables.{SolveTables}
 use Rattle.solve_checks.specs.declared.SolveTables.the-variants as solve
@@ -14,6 +14,7 @@ toldSolve (solve.LStarts place) = badFactor 3 place
 toldSolve solve.Stored = tooManyStored
 toldSolve (solve.Row place) = outOfRange place
 toldSolve (solve.LRow place) = badFactor 5 place
+toldSolve (solve.Parent block) = badParent block
 toldSolve (solve.Order place) = notIncreasing place
 toldSolve (solve.LOrder place) = badFactor 6 place
 toldSolve solve.LValues = badValueCount

@@ -1,6 +1,7 @@
 // The checks of the tables that a solve is called with: A's tables without its values, the permutation, the late flags, and the factor's
 // tables, 1 to 9 of document 01, on any input whatever: accepted, or the refusal with the lowest number, at its first place. Within
-// a number A's table comes before the factor's. Only 7 stands behind 8 and 9: the areas of a factor go by the order of elimination.
+// a number A's table comes before the factor's, and the parents come last of 5. Only 7 stands behind 8 and 9: the areas of a factor go by
+// the order of elimination.
 use checks::MAX_BLOCKS;
 use checks::MAX_STORED;
 use columns::core::Least;
@@ -10,6 +11,7 @@ use factor_order::core::area_under;
 use refusal::Worked;
 use tables::core::first_dim;
 use tables::core::first_late;
+use tables::core::first_parent;
 use tables::core::first_perm;
 use tables::core::first_start;
 ghost use mathlib.Core.Path.{_≡_};
@@ -33,6 +35,8 @@ pub enum SolveTables {
     Row { place: usize },
     // 5: the entry of the factor's row table.
     LRow { place: usize },
+    // 5: the block whose parent is neither none nor a greater block.
+    Parent { block: usize },
     // 6: the entry of A's row table.
     Order { place: usize },
     // 6: the entry of the factor's row table.
@@ -45,18 +49,20 @@ pub enum SolveTables {
     Late { place: usize },
 }
 
-// A's tables, the permutation, the late flags, and the tables of a factor, whose column j stores rows past j.
+// A's tables, the permutation, the late flags, and the tables of a factor: the parents of its blocks, whatever their count, and its
+// starts and rows, whose column j stores rows past j.
 pub fn check_solve(
     dims: &[u32],
     starts: &[u32],
     rows: &[u32],
     perm: &[u32],
     late: &[u32],
+    parents: &[u32],
     l_starts: &[u32],
     l_rows: &[u32],
     l_values: &[f64],
 ) -> SolveTables
-    ensures { λ r. ⌜ toldSolve r ≡ solveVerdict (now (dims .entry)) (now (starts .entry)) (now (rows .entry)) (now (perm .entry)) (now (late .entry)) (now («l_starts» .entry)) (now («l_rows» .entry)) (now («l_values» .entry)) ⌝ }
+    ensures { λ r. ⌜ toldSolve r ≡ solveVerdict (now (dims .entry)) (now (starts .entry)) (now (rows .entry)) (now (perm .entry)) (now (late .entry)) (now (parents .entry)) (now («l_starts» .entry)) (now («l_rows» .entry)) (now («l_values» .entry)) ⌝ }
 {
     let n = dims.len();
     if n > MAX_BLOCKS {
@@ -86,6 +92,10 @@ pub fn check_solve(
     let l5 = first_row(l_starts, l_rows, n, Least::PastDiagonal);
     if l5 < lm {
         return SolveTables::LRow { place: l5 };
+    }
+    let p5 = first_parent(parents);
+    if p5 < parents.len() {
+        return SolveTables::Parent { block: p5 };
     }
     let k6 = first_fall(starts, rows, n);
     if k6 < m {

@@ -13,10 +13,10 @@ use Rattle.graph.specs.Links.{rowsIn, linkedOf}
 use Rattle.graph.specs.Order.{moved}
 use Rattle.graph.proofs.OrderLaws.{moved-permutes}
 use Rattle.graph.proofs.Whole.{linked-symm}
-use Rattle.refusal.specs.Refusal.{Told, refuses, verdict, after}
+use Rattle.refusal.specs.Refusal.{Told, done, refuses, verdict, after}
 use Rattle.refusal.proofs.Laws.{all-pass, both-pass}
 use Rattle.needs.specs.Needs.{needChecks}
-use Rattle.tables.specs.Verdict.{pastDiagonal, areas, planChecks, planVerdict, systemChecks, systemVerdict}
+use Rattle.tables.specs.Verdict.{pastDiagonal, areas, parentsCheck, planChecks, planVerdict, systemChecks, systemVerdict}
 use Rattle.tables.specs.Sound.{Columns}
 use Rattle.tables.proofs.CheckLaws.{values-go}
 use Rattle.tables.proofs.Sound.{plan-sound}
@@ -41,6 +41,7 @@ use Rattle.solve.specs.Solve.{lentList, callVerdict}
 use Rattle.solve_fresh.specs.Accepted.{PlanAccepted, FactorAccepted}
 use Rattle.solve_fresh.proofs.PassLaws.{first-pass, pass-all, pass-before, needs-pass}
 use Rattle.solve_fresh.proofs.ColumnLaws.{starts-pass, rows-pass, order-pass}
+use Rattle.solve_fresh.proofs.TreeLaws.{parents-pass}
 
 -- ---- with the tables of its plan
 
@@ -48,20 +49,25 @@ module _ (dims starts rows perm late order parents lStarts lRows lOffsets : List
   columns : Columns pastDiagonal (length dims) lStarts lRows
   columns = rw (f .of-l-starts, f .of-l-rows) (plan-columns (linkedOf starts rows perm late) (length dims) (linked-symm (rowsIn starts rows) (moved perm late)))
 
+  tree-passes : refuses (planVerdict dims starts rows perm late) ≡ false → parentsCheck parents ≡ done
+  tree-passes passes =
+      rw (f .of-parents)
+      (parents-pass (linkedOf starts rows perm late) (length dims) (linked-symm (rowsIn starts rows) (moved perm late)) (plan-sound dims starts rows perm late passes .blocks))
+
   tables-pass : (lValues : List Float) → refuses (planVerdict dims starts rows perm late) ≡ false → length lValues ≡ areas (sizesOf dims (moved perm late)) lStarts lRows
-      → refuses (solveVerdict dims starts rows perm late lStarts lRows lValues) ≡ false
+      → refuses (solveVerdict dims starts rows perm late parents lStarts lRows lValues) ≡ false
   unfolding planVerdict solveVerdict
   tables-pass lValues passes counted =
       let p = all-pass (planChecks dims starts rows perm late) passes in
       let q = p .1 .1 .1 in
-      pass-all (solveChecks dims starts rows perm late lStarts lRows lValues)
-      (p .0, (p .1 .0, (p .1 .1 .0, (ap refuses (starts-pass columns), (q .0, (q .1 .0, (ap refuses (rows-pass columns), (q .1 .1 .0, (ap refuses (order-pass columns), (q .1 .1 .1 .0, (q .1 .1 .1 .1 .0, (ap refuses (values-go (sizesOf dims (moved perm late)) lStarts lRows (length lValues) (areas (sizesOf dims (moved perm late)) lStarts lRows) refl counted), tt))))))))))))
+      pass-all (solveChecks dims starts rows perm late parents lStarts lRows lValues)
+      (p .0, (p .1 .0, (p .1 .1 .0, (ap refuses (starts-pass columns), (q .0, (q .1 .0, (ap refuses (rows-pass columns), (ap refuses (tree-passes passes), (q .1 .1 .0, (ap refuses (order-pass columns), (q .1 .1 .1 .0, (q .1 .1 .1 .1 .0, (ap refuses (values-go (sizesOf dims (moved perm late)) lStarts lRows (length lValues) (areas (sizesOf dims (moved perm late)) lStarts lRows) refl counted), tt)))))))))))))
 
 pub plan-accepted : PlanAccepted
 unfolding callVerdict
 plan-accepted dims starts rows perm late order parents lStarts lRows lOffsets lValues diag d x y scalarPerm sizes scalarStarts passes f counted enough =
     let lent = lentList dims x y scalarPerm sizes scalarStarts in
-    first-pass (solveVerdict dims starts rows perm late lStarts lRows lValues) _ (tables-pass dims starts rows perm late order parents lStarts lRows lOffsets diag d x f lValues passes counted)
+    first-pass (solveVerdict dims starts rows perm late parents lStarts lRows lValues) _ (tables-pass dims starts rows perm late order parents lStarts lRows lOffsets diag d x f lValues passes counted)
     (first-pass (verdict (needChecks lent)) _ (pass-all (needChecks lent) (needs-pass lent (zero-le, (enough .of-y, (enough .of-scalar-perm, (enough .of-sizes, (enough .of-scalar-starts, tt)))))))
     (ap refuses (fresh-passes dims starts rows perm late order parents lStarts lRows lOffsets diag d x (plan-sound dims starts rows perm late passes .permutes) f)))
 

@@ -19,7 +19,7 @@ use Rattle.solve_checks.specs.Verdict.{lStartsCheck, lRowsCheck, lOrderCheck}
 use Rattle.solve_checks.proofs.CheckLaws.{l-starts-go, l-rows-go, l-order-go}
 
 -- a search whose test holds at every place ends
-ends : (ok : ℕ → Bool) (end : ℕ) → ((k : ℕ) → k < end → ok k ≡ true) → end ≡ first ok 0 end
+pub ends : (ok : ℕ → Bool) (end : ℕ) → ((k : ℕ) → k < end → ok k ≡ true) → end ≡ first ok 0 end
 ends ok end all = sym (first-past ok 0 end end zero-le (omega arith) (λ k a h. all k h) ∙ first-end ok end end (omega arith))
 
 module _ {n : ℕ} {lStarts lRows : List ℕ} (c : Columns pastDiagonal n lStarts lRows) where

@@ -13,14 +13,14 @@ use Rattle.solve.proofs.check_call.Tie as tie
 
 -- where the outcome of the tables says accepted, their verdict is that nothing is wrong
 passes : (c : tie.After-enum-told) → let x = c .before .before .before .before .before .before .before .before .before .before .before .before .before .before .args in
-    done ≡ solveVerdict (now (x .dims)) (now (x .starts)) (now (x .rows)) (now (x .perm)) (now (x .late)) (now (x .l-starts)) (now (x .l-rows)) (now (x .l-values))
+    done ≡ solveVerdict (now (x .dims)) (now (x .starts)) (now (x .rows)) (now (x .perm)) (now (x .late)) (now (x .parents)) (now (x .l-starts)) (now (x .l-rows)) (now (x .l-values))
 passes c = sym (ap toldSolve (c .enum-told .given .1)) ∙ c .before .before .check-solve .ensures
 
 lent-core-requires : tie.Need-lent-core-requires
 lent-core-requires c κs =
     let x = c .before .before .before .before .before .before .before .before .before .before .before .before .before .before .args in
-    let s = solve-sound (now (x .dims)) (now (x .starts)) (now (x .rows)) (now (x .perm)) (now (x .late)) (now (x .l-starts)) (now (x .l-rows)) (now (x .l-values)) (ap refuses (sym (passes c))) in
-    (s .plan, l-columns (now (x .dims)) (now (x .starts)) (now (x .rows)) (now (x .perm)) (now (x .late)) (now (x .l-starts)) (now (x .l-rows)) (now (x .l-values)) s)
+    let s = solve-sound (now (x .dims)) (now (x .starts)) (now (x .rows)) (now (x .perm)) (now (x .late)) (now (x .parents)) (now (x .l-starts)) (now (x .l-rows)) (now (x .l-values)) (ap refuses (sym (passes c))) in
+    (s .plan, l-columns (now (x .dims)) (now (x .starts)) (now (x .rows)) (now (x .perm)) (now (x .late)) (now (x .parents)) (now (x .l-starts)) (now (x .l-rows)) (now (x .l-values)) s)
 
 returns : tie.Need-returns
 unfolding callVerdict
@@ -64,15 +64,19 @@ returns-10 c = stops-first _ (sym (ap toldSolve (c .before .tables7 .given .1)) 
 
 returns-11 : tie.Need-returns-11
 unfolding callVerdict
-returns-11 c = stops-first _ (sym (ap toldSolve (c .enum-told4 .given .1)) ∙ c .before .before .check-solve .ensures) refl
+returns-11 c = stops-first _ (sym (ap toldSolve (c .before .tables8 .given .1)) ∙ c .before .before .before .check-solve .ensures) refl
 
 returns-12 : tie.Need-returns-12
 unfolding callVerdict
-returns-12 c = stops-first _ (sym (ap toldSolve (c .before .tables8 .given .1)) ∙ c .before .before .before .check-solve .ensures) refl
+returns-12 c = stops-first _ (sym (ap toldSolve (c .enum-told4 .given .1)) ∙ c .before .before .check-solve .ensures) refl
 
 returns-13 : tie.Need-returns-13
 unfolding callVerdict
 returns-13 c = stops-first _ (sym (ap toldSolve (c .before .tables9 .given .1)) ∙ c .before .before .before .check-solve .ensures) refl
+
+returns-14 : tie.Need-returns-14
+unfolding callVerdict
+returns-14 c = stops-first _ (sym (ap toldSolve (c .before .tables10 .given .1)) ∙ c .before .before .before .check-solve .ensures) refl
 
 pub check-call-spec : {M : Type 1} → statement M
 check-call-spec =
@@ -81,6 +85,7 @@ check-call-spec =
     (λ c κs. search needs)
     (λ c. search needs)
     lent-core-requires
+    (λ c. search needs)
     (λ c. search needs)
     (λ c. search needs)
     (λ c. search needs)
@@ -105,4 +110,5 @@ check-call-spec =
     returns-10
     returns-11
     returns-12
-    returns-13)
+    returns-13
+    returns-14)

@@ -8,7 +8,7 @@ use Rattle.graph.specs.Order.{Permutes}
 use Rattle.refusal.specs.Refusal.{Told, verdict}
 use Rattle.tables.specs.Verdict.{pastDiagonal}
 use Rattle.tables.specs.Sound.{Sizes, Ordered, Columns}
-use Rattle.tables.proofs.CheckLaws.{stops, goes, blocks-stop, blocks-go, dims-stop, dims-go, starts-stop, starts-go, stored-stop, stored-go, rows-stop, rows-go, order-stop, order-go, values-stop, values-go, perm-stop, perm-go, late-stop, late-go}
+use Rattle.tables.proofs.CheckLaws.{stops, goes, blocks-stop, blocks-go, dims-stop, dims-go, starts-stop, starts-go, stored-stop, stored-go, rows-stop, rows-go, parents-stop, parents-go, order-stop, order-go, values-stop, values-go, perm-stop, perm-go, late-stop, late-go}
 use Rattle.tables.proofs.TableLaws.{sizes-of, ordered-of, columns-of, permutes-of, flags-of}
 use Rattle.solve_checks.specs.Verdict.{solveChecks, solveVerdict}
 use Rattle.solve_checks.proofs.CheckLaws.{l-starts-stop, l-starts-go, l-rows-stop, l-rows-go, l-order-stop, l-order-go, at-end}
@@ -16,7 +16,7 @@ use Rattle.solve_checks.proofs.check_solve.Statement.{statement}
 use Rattle.solve_checks.proofs.check_solve.Tie as tie
 
 abbrev checks : tie.Start → List Told
-checks s = solveChecks (s .args .dims .now) (s .args .starts .now) (s .args .rows .now) (s .args .perm .now) (s .args .late .now) (s .args .l-starts .now) (s .args .l-rows .now) (s .args .l-values .now)
+checks s = solveChecks (s .args .dims .now) (s .args .starts .now) (s .args .rows .now) (s .args .perm .now) (s .args .late .now) (s .args .parents .now) (s .args .l-starts .now) (s .args .l-rows .now) (s .args .l-values .now)
 
 -- from past each test to past the one before it, and the call's entry
 abbrev up2 : tie.Else2 → tie.Else1
@@ -52,8 +52,11 @@ up11 c = c .before .before
 abbrev up12 : tie.Else12 → tie.Else11
 up12 c = c .before .before
 
+abbrev up13 : tie.Else13 → tie.Else12
+up13 c = c .before .before
+
 abbrev start1 : tie.Else1 → tie.Start
-start1 c = c .before .before .before .before .before .before .before .before .before
+start1 c = c .before .before .before .before .before .before .before .before .before .before
 
 abbrev start2 : tie.Else2 → tie.Start
 start2 c = start1 (up2 c)
@@ -88,6 +91,9 @@ start11 c = start10 (up11 c)
 abbrev start12 : tie.Else12 → tie.Start
 start12 c = start11 (up12 c)
 
+abbrev start13 : tie.Else13 → tie.Start
+start13 c = start12 (up13 c)
+
 -- past each test, what is left of the verdict is all of it
 past-blocks : (c : tie.Else1) → verdict (drop 1 (checks (start1 c))) ≡ verdict (checks (start1 c))
 past-blocks c = goes (drop 1 (checks (start1 c))) (blocks-go _ (c .if1 .left))
@@ -110,20 +116,23 @@ past-rows c = goes (drop 6 (checks (start6 c))) (rows-go _ _ _ _ _ (c .before .f
 past-l-rows : (c : tie.Else7) → verdict (drop 7 (checks (start7 c))) ≡ verdict (checks (start7 c))
 past-l-rows c = goes (drop 7 (checks (start7 c))) (l-rows-go _ _ _ _ (c .before .first-row2 .ensures) (c .if7 .left)) ∙ past-rows (up7 c)
 
-past-order : (c : tie.Else8) → verdict (drop 8 (checks (start8 c))) ≡ verdict (checks (start8 c))
-past-order c = goes (drop 8 (checks (start8 c))) (order-go _ _ _ _ (c .before .first-fall .ensures) (c .if8 .left)) ∙ past-l-rows (up8 c)
+past-parents : (c : tie.Else8) → verdict (drop 8 (checks (start8 c))) ≡ verdict (checks (start8 c))
+past-parents c = goes (drop 8 (checks (start8 c))) (parents-go _ _ (c .before .first-parent .ensures) (c .if8 .left)) ∙ past-l-rows (up8 c)
 
-past-l-order : (c : tie.Else9) → verdict (drop 9 (checks (start9 c))) ≡ verdict (checks (start9 c))
-past-l-order c = goes (drop 9 (checks (start9 c))) (l-order-go _ _ _ _ (c .before .first-fall2 .ensures) (c .if9 .left)) ∙ past-order (up9 c)
+past-order : (c : tie.Else9) → verdict (drop 9 (checks (start9 c))) ≡ verdict (checks (start9 c))
+past-order c = goes (drop 9 (checks (start9 c))) (order-go _ _ _ _ (c .before .first-fall .ensures) (c .if9 .left)) ∙ past-parents (up9 c)
 
-past-perm : (c : tie.Else10) → verdict (drop 10 (checks (start10 c))) ≡ verdict (checks (start10 c))
-past-perm c = goes (drop 10 (checks (start10 c))) (perm-go _ _ _ (c .before .first-perm .ensures) (c .if10 .left)) ∙ past-l-order (up10 c)
+past-l-order : (c : tie.Else10) → verdict (drop 10 (checks (start10 c))) ≡ verdict (checks (start10 c))
+past-l-order c = goes (drop 10 (checks (start10 c))) (l-order-go _ _ _ _ (c .before .first-fall2 .ensures) (c .if10 .left)) ∙ past-order (up10 c)
 
-past-late : (c : tie.Else11) → verdict (drop 11 (checks (start11 c))) ≡ verdict (checks (start11 c))
-past-late c = goes (drop 11 (checks (start11 c))) (late-go _ _ _ (c .before .first-late .ensures) (c .if11 .left)) ∙ past-perm (up11 c)
+past-perm : (c : tie.Else11) → verdict (drop 11 (checks (start11 c))) ≡ verdict (checks (start11 c))
+past-perm c = goes (drop 11 (checks (start11 c))) (perm-go _ _ _ (c .before .first-perm .ensures) (c .if11 .left)) ∙ past-l-order (up11 c)
 
-past-values : (c : tie.Else12) → verdict (drop 12 (checks (start12 c))) ≡ verdict (checks (start12 c))
-past-values c = goes (drop 12 (checks (start12 c))) (values-go _ _ _ _ _ (c .before .area-under .ensures) (c .if12 .left)) ∙ past-late (up12 c)
+past-late : (c : tie.Else12) → verdict (drop 12 (checks (start12 c))) ≡ verdict (checks (start12 c))
+past-late c = goes (drop 12 (checks (start12 c))) (late-go _ _ _ (c .before .first-late .ensures) (c .if12 .left)) ∙ past-perm (up12 c)
+
+past-values : (c : tie.Else13) → verdict (drop 13 (checks (start13 c))) ≡ verdict (checks (start13 c))
+past-values c = goes (drop 13 (checks (start13 c))) (values-go _ _ _ _ _ (c .before .area-under .ensures) (c .if13 .left)) ∙ past-late (up13 c)
 
 -- what the tests that passed say
 few : (c : tie.Else4) → length (start4 c .args .dims .now) ≤ 4096
@@ -135,26 +144,26 @@ ordered c = ordered-of _ _ _ (at-end (up4 c .before .first-start .ensures) (up4 
 l-ordered : (c : tie.Else4) → let s = start4 c in Ordered (s .args .l-starts .now) (length (s .args .dims .now)) (length (s .args .l-rows .now))
 l-ordered c = ordered-of _ _ _ (at-end (c .before .first-start2 .ensures) (c .if4 .left))
 
-l-columns : (c : tie.Else9) → let s = start9 c in Columns pastDiagonal (length (s .args .dims .now)) (s .args .l-starts .now) (s .args .l-rows .now)
+l-columns : (c : tie.Else10) → let s = start10 c in Columns pastDiagonal (length (s .args .dims .now)) (s .args .l-starts .now) (s .args .l-rows .now)
 l-columns c =
-    let rows = up8 (up9 c) in
-    columns-of pastDiagonal _ _ _ (l-ordered (up5 (up6 (up7 rows)))) (at-end (rows .before .first-row2 .ensures) (rows .if7 .left)) (at-end (c .before .first-fall2 .ensures) (c .if9 .left))
+    let rows = up8 (up9 (up10 c)) in
+    columns-of pastDiagonal _ _ _ (l-ordered (up5 (up6 (up7 rows)))) (at-end (rows .before .first-row2 .ensures) (rows .if7 .left)) (at-end (c .before .first-fall2 .ensures) (c .if10 .left))
 
-measures : (c : tie.Else11) → let s = start11 c in
+measures : (c : tie.Else12) → let s = start12 c in
     ((length (s .args .dims .now) ≤ 4096) × Sizes (s .args .dims .now) × Permutes (length (s .args .dims .now)) (s .args .perm .now) × (length (s .args .late .now) ≡ length (s .args .dims .now)))
     × Columns pastDiagonal (length (s .args .dims .now)) (s .args .l-starts .now) (s .args .l-rows .now)
 measures c =
-    let perm = up11 c in
-    let tables = up10 perm in
-    let starts = up5 (up6 (up7 (up8 (up9 tables)))) in
+    let perm = up12 c in
+    let tables = up11 perm in
+    let starts = up5 (up6 (up7 (up8 (up9 (up10 tables))))) in
     let dims = up3 (up4 starts) in (
-      (few starts, sizes-of _ (at-end (dims .before .first-dim .ensures) (dims .if2 .left)), permutes-of _ _ (at-end (perm .before .first-perm .ensures) (perm .if10 .left)), flags-of _ _ (at-end (c .before .first-late .ensures) (c .if11 .left)) .0),
+      (few starts, sizes-of _ (at-end (dims .before .first-dim .ensures) (dims .if2 .left)), permutes-of _ _ (at-end (perm .before .first-perm .ensures) (perm .if11 .left)), flags-of _ _ (at-end (c .before .first-late .ensures) (c .if12 .left)) .0),
       l-columns tables,
     )
 
 returns : tie.Need-returns
 unfolding solveVerdict
-returns c = stops (drop 1 (checks (c .before .before .before .before .before .before .before .before .before))) (blocks-stop _ (c .if1 .taken)) refl
+returns c = stops (drop 1 (checks (c .before .before .before .before .before .before .before .before .before .before))) (blocks-stop _ (c .if1 .taken)) refl
 
 returns-2 : tie.Need-returns-2
 unfolding solveVerdict
@@ -182,27 +191,31 @@ returns-7 c = stops (drop 7 (checks (start6 (c .before .before)))) (l-rows-stop 
 
 returns-8 : tie.Need-returns-8
 unfolding solveVerdict
-returns-8 c = stops (drop 8 (checks (start7 (c .before .before)))) (order-stop _ _ _ _ (c .before .first-fall .ensures) (c .if8 .taken)) refl ∙ past-l-rows (c .before .before)
+returns-8 c = stops (drop 8 (checks (start7 (c .before .before)))) (parents-stop _ _ (c .before .first-parent .ensures) (c .if8 .taken)) refl ∙ past-l-rows (c .before .before)
 
 returns-9 : tie.Need-returns-9
 unfolding solveVerdict
-returns-9 c = stops (drop 9 (checks (start8 (c .before .before)))) (l-order-stop _ _ _ _ (c .before .first-fall2 .ensures) (c .if9 .taken)) refl ∙ past-order (c .before .before)
+returns-9 c = stops (drop 9 (checks (start8 (c .before .before)))) (order-stop _ _ _ _ (c .before .first-fall .ensures) (c .if9 .taken)) refl ∙ past-parents (c .before .before)
 
 returns-10 : tie.Need-returns-10
 unfolding solveVerdict
-returns-10 c = stops (drop 10 (checks (start9 (c .before .before)))) (perm-stop _ _ _ (c .before .first-perm .ensures) (c .if10 .taken)) refl ∙ past-l-order (c .before .before)
+returns-10 c = stops (drop 10 (checks (start9 (c .before .before)))) (l-order-stop _ _ _ _ (c .before .first-fall2 .ensures) (c .if10 .taken)) refl ∙ past-order (c .before .before)
 
 returns-11 : tie.Need-returns-11
 unfolding solveVerdict
-returns-11 c = stops (drop 11 (checks (start10 (c .before .before)))) (late-stop _ _ _ (c .before .first-late .ensures) (c .if11 .taken)) refl ∙ past-perm (c .before .before)
+returns-11 c = stops (drop 11 (checks (start10 (c .before .before)))) (perm-stop _ _ _ (c .before .first-perm .ensures) (c .if11 .taken)) refl ∙ past-l-order (c .before .before)
 
 returns-12 : tie.Need-returns-12
 unfolding solveVerdict
-returns-12 c = stops (drop 12 (checks (start11 (c .before .before)))) (values-stop _ _ _ _ _ (c .before .area-under .ensures) (c .if12 .taken)) refl ∙ past-late (c .before .before)
+returns-12 c = stops (drop 12 (checks (start11 (c .before .before)))) (late-stop _ _ _ (c .before .first-late .ensures) (c .if12 .taken)) refl ∙ past-perm (c .before .before)
 
 returns-13 : tie.Need-returns-13
 unfolding solveVerdict
-returns-13 c = past-values c
+returns-13 c = stops (drop 13 (checks (start12 (c .before .before)))) (values-stop _ _ _ _ _ (c .before .area-under .ensures) (c .if13 .taken)) refl ∙ past-late (c .before .before)
+
+returns-14 : tie.Need-returns-14
+unfolding solveVerdict
+returns-14 c = past-values c
 
 pub check-solve-spec : {M : Type 1} → statement M
 check-solve-spec =
@@ -222,16 +235,18 @@ check-solve-spec =
     returns-6
     (λ c κs. (few (up5 (up6 c)), l-ordered (up5 (up6 c))))
     returns-7
-    (λ c κs. ordered (up5 (up6 (up7 c))))
+    (λ c κs. search needs)
     returns-8
-    (λ c κs. l-ordered (up5 (up6 (up7 (up8 c)))))
+    (λ c κs. ordered (up5 (up6 (up7 (up8 c)))))
     returns-9
-    (λ c κs. few (up5 (up6 (up7 (up8 (up9 c))))))
-    (λ c. search needs)
+    (λ c κs. l-ordered (up5 (up6 (up7 (up8 (up9 c))))))
     returns-10
     (λ c κs. few (up5 (up6 (up7 (up8 (up9 (up10 c)))))))
     (λ c. search needs)
     returns-11
-    (λ c κs. measures c)
+    (λ c κs. few (up5 (up6 (up7 (up8 (up9 (up10 (up11 c))))))))
+    (λ c. search needs)
     returns-12
-    returns-13)
+    (λ c κs. measures c)
+    returns-13
+    returns-14)
