@@ -12,7 +12,7 @@ ghost use Rattle.marks.specs.Marks.{Marks, marksVerdict};
 // What an accepted call hands back.
 pub struct Tally {
     // How many scalars are silent.
-    silent: usize,
+    pub silent: usize,
 }
 
 // The outcome of `marks`.
