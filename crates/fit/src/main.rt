@@ -1,6 +1,6 @@
 // Reads one sheet from standard input and prints its answer: the lines of an accepted night, or `refused` and the number.
 use fit_answer::answer;
-use render::Rendered;
+use render::Line;
 
 const STDIN: i32 = 0;
 
@@ -43,12 +43,11 @@ fn print(sheet: &[u8], read: usize) {
     let mut out = [0u8; 24576];
     let r = answer(&sheet[..read], &mut out);
     match r {
-        Rendered::Accepted(t) => {
+        Line::Accepted(t) => {
             let n = t.bytes;
             show(&out, n);
         }
-        Rendered::Short { need: _ } => {}
-        Rendered::Mismatch { place: _ } => {}
+        Line::Short { need: _ } => {}
     }
 }
 

@@ -12,7 +12,7 @@ use lib.Dec.{ltb, leb, eqb}
 use lib.Ieee.{Float}
 use lib.ListN.{length, take, replicate, length-append, length-replicate, length-take}
 use lib.Seq.{length-take-le, take-at}
-use Rattle.refusal.specs.Refusal.{Told, tells, number, accepted, done, noRoom, refuses, firstOf, verdict, shapesDisagree}
+use Rattle.refusal.specs.Refusal.{Told, tells, number, accepted, done, noRoom, refuses, firstOf, verdict, shortBuffer, shapesDisagree}
 use Rattle.refusal.proofs.Laws.{both-pass, verdict-goes}
 use Rattle.tables.specs.Verdict.{systemVerdict}
 use Rattle.scalars.specs.Scalars.{scalarCount}
@@ -35,7 +35,6 @@ use Rattle.sheet_check.specs.declared.core.Sheet.the-variants as sheet
 use Rattle.sheet.specs.Reads.{Holds}
 use Rattle.render.specs.Lines.{refusedLine, answerText}
 use Rattle.render.specs.Rendered.{shapeChecks, textVerdict, answerVerdict, Renders}
-use Rattle.render.specs.declared.Rendered.{Rendered}
 use Rattle.fit_answer.specs.Fit.{refusedOr, runText, nightText, printed}
 
 -- ---- parts of a room
@@ -87,7 +86,7 @@ module _ (a : System) (b : List Float) where
 -- ---- the text is rendered
 
 -- under a verdict on the text alone
-module _ (text′ text out : List ℕ) (e : text′ ≡ text) (r : Rendered) (out′ : List ℕ) where
+module _ (text′ text out : List ℕ) (e : text′ ≡ text) (r : Told) (out′ : List ℕ) where
   pub renders-as : Renders (textVerdict text′ out) text′ out r out′ → Renders (textVerdict text out) text out r out′
   renders-as q = subst (λ (t : List ℕ). Renders (textVerdict t out) t out r out′) e q
 
@@ -102,6 +101,14 @@ module _ (text′ text out : List ℕ) (e : text′ ≡ text) (r : Rendered) (ou
 
       passes : answerVerdict x marks text′ out ≡ textVerdict text′ out
       passes = ap (λ (v : Told). firstOf v (textVerdict text′ out)) shape
+
+-- what is told of a text is 0 or 11
+pub told-of-text : (text out : List ℕ) (t : Told) (out′ : List ℕ) → Renders (textVerdict text out) text out t out′ → eqb (number t) 12 ≡ false
+told-of-text text out t out′ q = ap (λ (u : Told). eqb (number u) 12) (q .outcome) ∙ go (ltb (length out) (length text))
+  where
+    go : (c : Bool) → eqb (number (firstOf (cond c (shortBuffer 0 (length text)) done) (accepted (length text ∷ []) []))) 12 ≡ false
+    go true = refl
+    go false = refl
 
 -- ---- before the plan
 

@@ -2,17 +2,17 @@
 pub mod core;
 
 use crate::core::solve_core;
-use render::Rendered;
+use render::Line;
 use render::refused;
 use sheet::Sheet;
 use sheet::read;
-ghost use Rattle.render.specs.Rendered.{Renders, textVerdict};
+ghost use Rattle.render.specs.Rendered.{toldLine, Renders, textVerdict};
 ghost use Rattle.fit_answer.specs.Fit.{printed};
 
 // The answer's bytes go to the first places of `out`: the lines of an accepted night, or the line of a refusal. Only a shorter `out` is
 // refused, by 11 with the text's length as its need; it is then as it was, and so are always the places beyond the text.
-pub fn answer(bytes: &[u8], out: &mut [u8]) -> Rendered
-    ensures { λ r. ⌜ Renders (textVerdict (printed (now (bytes .entry))) (now (out .entry))) (printed (now (bytes .entry))) (now (out .entry)) r (now (out .exit)) ⌝ }
+pub fn answer(bytes: &[u8], out: &mut [u8]) -> Line
+    ensures { λ r. ⌜ Renders (textVerdict (printed (now (bytes .entry))) (now (out .entry))) (printed (now (bytes .entry))) (now (out .entry)) (toldLine r) (now (out .exit)) ⌝ }
 {
     let mut dims = [0u32; 128];
     let mut late = [0u32; 128];

@@ -3,16 +3,17 @@ use Prim.Native.Nat.{ℕ, _+_}
 use mathlib.Core.Bool.{Bool, cond}
 use mathlib.Core.List.{List, [], _∷_, _++_}
 use mathlib.Core.Path.{_≡_}
-use lib.Dec.{ltb, eqb}
+use lib.Dec.{eqb}
 use lib.Ieee.{Float}
 use lib.ListN.{drop}
-use Rattle.refusal.specs.Refusal.{Told, number, accepted, done, pivotNotFinite, poorlyConditioned, noRoom, firstOf, after}
+use Rattle.refusal.specs.Refusal.{Told, number, accepted, pivotNotFinite, poorlyConditioned, noRoom, firstOf, after}
 use Rattle.graph.specs.Sets.{elem}
 use Rattle.elimination_tree.specs.Tree.{parentsOf}
 use Rattle.scalars.specs.Scalars.{scalarCount}
 use Rattle.machine.specs.System.{System, blocks, links, order}
 use Rattle.machine.specs.Machine.{run}
 use Rattle.layout.specs.Layout.{unitsNeed}
+use Rattle.sheet_check.specs.Checks.{roomFactor, roomCheck}
 use Rattle.factor_setup.specs.Exact.{stored, numbers, lStarts, lRows, lOffsets, valuesAfter, unitsAfter, pivotsAfter}
 use Rattle.factor_core.specs.Factorize.{answered}
 use Rattle.fit_factor.specs.declared.core.Fitted.{Fitted}
@@ -25,9 +26,9 @@ told (variant.NotFinite block place pivot) = pivotNotFinite block place pivot
 told (variant.Poor block condition) = poorlyConditioned block condition
 told variant.Room = noRoom
 
--- 16: L has at most 8,192 numbers
+-- 16: the program's room for L's numbers, 8,192
 abbrev pub lRoomCheck : System → Told
-lRoomCheck a = cond (ltb 8192 (numbers a)) noRoom done
+lRoomCheck a = roomCheck roomFactor (numbers a)
 
 -- the numbers that a factorization can be told with where its tables have passed
 abbrev pub possible : ℕ → Bool

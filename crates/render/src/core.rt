@@ -50,7 +50,7 @@ pub fn first_line(
     put_text(out, e, b"\n")
 }
 
-// A mark's word and the line's end: silent where it is 0, else heard.
+// A mark's word: silent where it is 0, else heard.
 pub fn mark_word(out: &mut [u8], at: usize, mark: u8) -> usize
     requires { ⌜ at + length (markWord mark) ≤ length (now out) ⌝ }
     ensures { λ r. ⌜ Puts at (markWord mark) (now (out .entry)) r (now (out .exit)) ⌝ }

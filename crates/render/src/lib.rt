@@ -9,14 +9,21 @@ use crate::core::refused_line;
 use digits::core::places;
 ghost use lib.ListN.{length};
 ghost use Rattle.render.specs.Lines.{refusedLine, answerText};
-ghost use Rattle.render.specs.Rendered.{Renders, textVerdict, answerVerdict};
+ghost use Rattle.render.specs.Rendered.{told, toldLine, Renders, textVerdict, answerVerdict};
 
 // How many bytes were written.
 pub struct Text {
     pub bytes: usize,
 }
 
-// The outcome of a rendering.
+// The outcome of rendering a text: a line, or all that is printed for a sheet.
+pub enum Line {
+    Accepted(Text),
+    // 11: the buffer's need.
+    Short { need: usize },
+}
+
+// The outcome of rendering an answer.
 pub enum Rendered {
     Accepted(Text),
     // 11: the buffer's need.
@@ -26,15 +33,15 @@ pub enum Rendered {
 }
 
 // A refusal's line, from the first place on.
-pub fn refused(number: u64, out: &mut [u8]) -> Rendered
-    ensures { λ r. ⌜ Renders (textVerdict (refusedLine number) (now (out .entry))) (refusedLine number) (now (out .entry)) r (now (out .exit)) ⌝ }
+pub fn refused(number: u64, out: &mut [u8]) -> Line
+    ensures { λ r. ⌜ Renders (textVerdict (refusedLine number) (now (out .entry))) (refusedLine number) (now (out .entry)) (toldLine r) (now (out .exit)) ⌝ }
 {
     let need = places(number) + 9;
     if out.len() < need {
-        return Rendered::Short { need };
+        return Line::Short { need };
     }
     let bytes = refused_line(out, 0, number);
-    Rendered::Accepted(Text { bytes })
+    Line::Accepted(Text { bytes })
 }
 
 // An accepted answer, from the first place on: the first line, then a line for each scalar of the solution x, with its mark: 0 is
@@ -48,7 +55,7 @@ pub fn answer(
     marks: &[u8],
     out: &mut [u8],
 ) -> Rendered
-    ensures { λ r. ⌜ Renders (answerVerdict (now (x .entry)) (now (marks .entry)) (answerText blocks stored products silent (now (x .entry)) (now (marks .entry))) (now (out .entry))) (answerText blocks stored products silent (now (x .entry)) (now (marks .entry))) (now (out .entry)) r (now (out .exit)) ⌝ }
+    ensures { λ r. ⌜ Renders (answerVerdict (now (x .entry)) (now (marks .entry)) (answerText blocks stored products silent (now (x .entry)) (now (marks .entry))) (now (out .entry))) (answerText blocks stored products silent (now (x .entry)) (now (marks .entry))) (now (out .entry)) (told r) (now (out .exit)) ⌝ }
 {
     if x.len() > 65536 {
         return Rendered::Mismatch { place: 0 };

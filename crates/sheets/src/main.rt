@@ -2,7 +2,7 @@
 // answered with the same bytes, and a last line that says whether all are. A sheet in the list: two words of 32 bits, how long it and its
 // answer are, then both; 4,294,967,295 ends the list.
 use fit_answer::answer;
-use render::Rendered;
+use render::Line;
 use sheet_bytes::core::u32_at;
 
 const STDIN: i32 = 0;
@@ -118,15 +118,14 @@ fn answered(sheet: &[u8], n: usize, told: &[u8], m: usize) -> bool {
     let mut out = [0u8; 24576];
     let r = answer(&sheet[..n], &mut out);
     match r {
-        Rendered::Accepted(t) => {
+        Line::Accepted(t) => {
             let k = t.bytes;
             if k != m {
                 return false;
             }
             same(&out, told, m)
         }
-        Rendered::Short { need: _ } => false,
-        Rendered::Mismatch { place: _ } => false,
+        Line::Short { need: _ } => false,
     }
 }
 

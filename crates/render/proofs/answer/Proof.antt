@@ -1,14 +1,13 @@
 -- `render::answer` meets its contract: shapes that disagree, a need that is not met, or the first line and the others. Assumes nothing.
 use Prim.Native.Nat.{ℕ, _+_, _≤_}
-use mathlib.Core.List.{List}
+use mathlib.Core.List.{List, [], _∷_}
 use mathlib.Core.Path.{_≡_, sym, ap₂, subst, _∙_}
 use native.Mathlib.Omega.{arith}
 use lib.ListN.{length, length-append}
 use denote.Ref.{now}
-use Rattle.refusal.specs.Refusal.{Told}
+use Rattle.refusal.specs.Refusal.{Told, accepted, shortBuffer}
 use Rattle.render.specs.Lines.{firstLine, lines, answerText}
 use Rattle.render.specs.Rendered.{Renders}
-use Rattle.render.specs.declared.Rendered.the-variants.{Accepted, Short}
 use Rattle.render.proofs.Laws.{puts-next}
 use Rattle.render.proofs.Outcomes.{renders-short, renders-text, renders-many, renders-unlike, shapes-agree}
 use borrow.Author.Needs.{needs}
@@ -37,7 +36,7 @@ returns-2 c = let s = c .before .before .before .before .before in renders-unlik
 returns-3 : tie.Need-returns-3
 returns-3 c =
     let s = c .before .before .before .before .before .before .before .before in
-    subst (λ (v : Told). Renders v (text s) (now (s .args .out)) (Short (c .before .before .first-length .result + c .before .lines-length .result)) (now (s .args .out)))
+    subst (λ (v : Told). Renders v (text s) (now (s .args .out)) (shortBuffer 0 (c .before .before .first-length .result + c .before .lines-length .result)) (now (s .args .out)))
     (shapes-agree (text s) (now (s .args .out)) (now (s .args .x)) (now (s .args .marks)) (c .before .before .before .before .if1 .left) (c .before .before .before .if2 .left))
     (renders-short (text s) (now (s .args .out)) _ (need (c .before)) (c .if3 .taken))
 
@@ -45,7 +44,7 @@ returns-4 : tie.Need-returns-4
 returns-4 c =
     let s = c .before .before .before .before .before .before .before .before .before .before .before .before .before .before .before .before in
     let room : length (text s) ≤ length (now (s .args .out)) = omega (arith, need (c .before .before .before .before .before .before .before .before .before), c .before .before .before .before .before .before .before .before .if3 .left) in
-    subst (λ (v : Told). Renders v (text s) (now (s .args .out)) (Accepted (record { bytes = c .before .before .put-lines .result })) (c .before .before .put-lines .last .0))
+    subst (λ (v : Told). Renders v (text s) (now (s .args .out)) (accepted (c .before .before .put-lines .result ∷ []) []) (c .before .before .put-lines .last .0))
     (shapes-agree (text s) (now (s .args .out)) (now (s .args .x)) (now (s .args .marks)) (c .before .before .before .before .before .before .before .before .before .before .before .before .if1 .left) (c .before .before .before .before .before .before .before .before .before .before .before .if2 .left))
     (renders-text (text s) (now (s .args .out)) (record { bytes = c .before .before .put-lines .result }) (c .before .before .put-lines .last .0) room (puts-next (rest s) (c .before .before .before .before .before .before .first-line .ensures) (c .before .before .put-lines .ensures) (omega (arith, room))))
 

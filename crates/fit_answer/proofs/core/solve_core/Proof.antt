@@ -8,7 +8,7 @@ use lib.Ieee.{Float}
 use lib.ListN.{length, take, drop, replicate}
 use lib.Seq.{take-at}
 use borrow.Author.Needs.{needs}
-use Rattle.refusal.specs.Refusal.{number, refuses}
+use Rattle.refusal.specs.Refusal.{Told, number, refuses}
 use Rattle.machine.specs.System.{System}
 use Rattle.factor_setup.specs.Exact.{system}
 use Rattle.fit_night.specs.Night as night
@@ -17,8 +17,9 @@ use Rattle.fit_night.specs.declared.core.Night.{Night}
 use Rattle.fit_night.specs.declared.core.Night.the-variants as variant
 use Rattle.fit_night.specs.declared.core.Tally.{Tally}
 use Rattle.render.specs.Lines.{refusedLine, answerText}
+use Rattle.render.specs.Rendered.{told, Renders, textVerdict}
 use Rattle.fit_answer.specs.Fit.{nightText}
-use Rattle.fit_answer.proofs.Laws.{part, within, again, night-refused, night-accepted, renders-as, answer-renders}
+use Rattle.fit_answer.proofs.Laws.{part, within, again, night-refused, night-accepted, renders-as, answer-renders, told-of-text}
 use Rattle.fit_answer.proofs.core.solve_core.Statement.{statement}
 use Rattle.fit_answer.proofs.core.solve_core.Tie as tie
 
@@ -58,8 +59,10 @@ tally c = c .r .given .0 .0
 solves : (c : tie.After-r) → Solves (the-system (c .before .before .before .before .before .before .before .before .before .before .before .before .before .before .before .before)) (c .before .before .before .before .before .before .before .before .before .before .before .before .before .before .before .before .args .x .now) (take (length (c .before .before .before .before .before .before .before .before .before .before .before .before .before .before .before .before .args .x .now)) (replicate 512 0)) (variant.Accepted (tally c)) (solution (c .before .before .before .before .before)) (marks (c .before .before .before .before .before))
 solves c = subst (λ (r : Night). Solves (the-system (c .before .before .before .before .before .before .before .before .before .before .before .before .before .before .before .before)) (c .before .before .before .before .before .before .before .before .before .before .before .before .before .before .before .before .args .x .now) (take (length (c .before .before .before .before .before .before .before .before .before .before .before .before .before .before .before .before .args .x .now)) (replicate 512 0)) r (solution (c .before .before .before .before .before)) (marks (c .before .before .before .before .before))) (c .r .given .1) (c .before .before .before .before .before .night-core .ensures)
 
-accepted : tie.Need-returns
-accepted c =
+-- the answer that was rendered is the text
+rendered : (c : tie.After-slice-known4) → let start = c .before .before .before .before .before .before .before .before .before .before .before .before .before .before .before .before .before .before .before .before .before .before .before in
+    Renders (textVerdict (nightText (the-system start) (start .args .x .now)) (start .args .out .now)) (nightText (the-system start) (start .args .x .now)) (start .args .out .now) (told (c .before .before .answer .result)) (c .before .before .answer .last .1 .1 .1 .1 .1 .1 .0)
+rendered c =
     let start = c .before .before .before .before .before .before .before .before .before .before .before .before .before .before .before .before .before .before .before .before .before .before .before in
     let k = length (start .args .x .now) in
     let n = c .before .before .before .before .before .before .before .before .before .before .before .before in
@@ -67,8 +70,17 @@ accepted c =
     let e : take k (marks n ++ drop k (replicate 512 0)) ≡ marks n = take-at (marks n) (drop k (replicate 512 0)) k (marks-long n) in
     let lines = answerText (length (start .args .dims .now)) (y .stored) (y .products) (y .silent) (solution n) in
     answer-renders (lines (take k (marks n ++ drop k (replicate 512 0)))) (nightText (the-system start) (start .args .x .now)) (start .args .out .now)
-    (ap lines e ∙ night-accepted (the-system start) (start .args .x .now) _ y (solution n) (marks n) (solves (c .before .before .before .before .before .before .before))) _ _ (solution n) (take k (marks n ++ drop k (replicate 512 0)))
+    (ap lines e ∙ night-accepted (the-system start) (start .args .x .now) _ y (solution n) (marks n) (solves (c .before .before .before .before .before .before .before))) (told (c .before .before .answer .result)) (c .before .before .answer .last .1 .1 .1 .1 .1 .1 .0) (solution n) (take k (marks n ++ drop k (replicate 512 0)))
     (omega (arith, n .night-core .kept .1 .1 .1 .1 .1 .1 .1 .0, few start)) (ap length e ∙ (marks-long n ∙ sym (n .night-core .kept .1 .1 .1 .1 .1 .1 .1 .0))) (c .before .before .answer .ensures)
+
+line-core-requires : tie.Need-line-core-requires
+line-core-requires c κs = let start = c .before .before .before .before .before .before .before .before .before .before .before .before .before .before .before .before .before .before .before .before .before .before .before in told-of-text (nightText (the-system start) (start .args .x .now)) (start .args .out .now) (told (c .before .before .answer .result)) (c .before .before .answer .last .1 .1 .1 .1 .1 .1 .0) (rendered c)
+
+accepted : tie.Need-returns
+accepted c =
+    let start = c .before .before .before .before .before .before .before .before .before .before .before .before .before .before .before .before .before .before .before .before .before .before .before .before in
+    subst (λ (t : Told). Renders (textVerdict (nightText (the-system start) (start .args .x .now)) (start .args .out .now)) (nightText (the-system start) (start .args .x .now)) (start .args .out .now) t (c .before .before .before .answer .last .1 .1 .1 .1 .1 .1 .0))
+    (sym (c .line-core .ensures)) (rendered (c .before))
 
 -- a refused night
 refused : (c : tie.After-night-core) {r : Night} → c .night-core .result ≡ r → refuses (night.told r) ≡ true → refusedLine (number (night.told r)) ≡ nightText (the-system (c .before .before .before .before .before .before .before .before .before .before .before)) (c .before .before .before .before .before .before .before .before .before .before .before .args .x .now)
@@ -94,6 +106,7 @@ solve-core-spec =
     share-marks
     of-marks-again
     (λ c κs. search needs)
+    line-core-requires
     (λ c. search needs)
     (λ c κs. search needs)
     (λ c. search needs)
