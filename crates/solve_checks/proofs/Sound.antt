@@ -11,12 +11,12 @@ use Rattle.refusal.specs.Refusal.{refuses}
 use Rattle.refusal.proofs.Laws.{all-pass}
 use Rattle.tables.specs.Verdict.{fromDiagonal, pastDiagonal}
 use Rattle.tables.specs.Sound.{Columns}
-use Rattle.tables.proofs.CheckLaws.{blocks-pass, dims-pass, starts-pass, stored-pass, rows-pass, parents-pass, order-pass, values-pass, perm-pass, late-pass}
-use Rattle.tables.proofs.TableLaws.{sizes-of, ordered-of, columns-of, stored-half, stored-limit, permutes-of, flags-of, parents-of}
+use Rattle.tables.proofs.CheckLaws.{blocks-pass, dims-pass, starts-pass, stored-pass, rows-pass, order-pass, values-pass, perm-pass, late-pass}
+use Rattle.tables.proofs.TableLaws.{sizes-of, ordered-of, columns-of, stored-half, stored-limit, permutes-of, flags-of}
 use Rattle.factor_tables.proofs.TableLaws.{sizes-count, sizes-sound}
 use Rattle.solve_checks.specs.Verdict.{solveChecks, solveVerdict}
 use Rattle.solve_checks.specs.Sound.{SolveSound}
-use Rattle.solve_checks.proofs.CheckLaws.{l-starts-pass, l-rows-pass, l-order-pass}
+use Rattle.solve_checks.proofs.CheckLaws.{l-starts-pass, l-rows-pass, tree-of, l-order-pass}
 
 pub solve-sound : (dims starts rows perm late parents lStarts lRows : List ℕ) (lValues : List Float) → refuses (solveVerdict dims starts rows perm late parents lStarts lRows lValues) ≡ false
     → SolveSound dims starts rows perm late parents lStarts lRows lValues
@@ -56,5 +56,5 @@ solve-sound dims starts rows perm late parents lStarts lRows lValues e =
             stored = stored-limit c few;
             counted = values-pass _ _ _ _ (p8 .1 .1 .0);
           };
-      tree = parents-of parents (parents-pass parents (p5 .1 .1 .0));
+      tree = tree-of n parents (p5 .1 .1 .0);
     }

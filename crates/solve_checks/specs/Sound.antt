@@ -15,5 +15,5 @@ pub record SolveSound (dims starts rows perm late parents lStarts lRows : List �
   pub plan : PlanSound dims starts rows perm late
   -- the factor's tables, with the dimensions under the order of elimination
   pub factor : FactorSound (sizesOf dims (moved perm late)) lStarts lRows lValues
-  -- each parent is none or a greater block
-  pub tree : (k : ℕ) → k < length parents → (at parents k ≡ 4294967295) ⊎ ((k < at parents k) × (at parents k < length parents))
+  -- each parent is none or a greater block of the system
+  pub tree : (k : ℕ) → k < length parents → (at parents k ≡ 4294967295) ⊎ ((k < at parents k) × (at parents k < length dims))

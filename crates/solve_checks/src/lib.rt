@@ -2,6 +2,9 @@
 // tables, 1 to 9 of document 01, on any input whatever: accepted, or the refusal with the lowest number, at its first place. Within
 // a number A's table comes before the factor's, and the parents come last of 5. Only 7 stands behind 8 and 9: the areas of a factor go by
 // the order of elimination.
+pub mod core;
+
+use crate::core::first_parent_of;
 use checks::MAX_BLOCKS;
 use checks::MAX_STORED;
 use columns::core::Least;
@@ -11,7 +14,6 @@ use factor_order::core::area_under;
 use refusal::Worked;
 use tables::core::first_dim;
 use tables::core::first_late;
-use tables::core::first_parent;
 use tables::core::first_perm;
 use tables::core::first_start;
 ghost use mathlib.Core.Path.{_≡_};
@@ -93,7 +95,7 @@ pub fn check_solve(
     if l5 < lm {
         return SolveTables::LRow { place: l5 };
     }
-    let p5 = first_parent(parents);
+    let p5 = first_parent_of(parents, n);
     if p5 < parents.len() {
         return SolveTables::Parent { block: p5 };
     }

@@ -16,7 +16,7 @@ use Rattle.graph.proofs.Whole.{linked-symm}
 use Rattle.refusal.specs.Refusal.{Told, done, refuses, verdict, after}
 use Rattle.refusal.proofs.Laws.{all-pass, both-pass}
 use Rattle.needs.specs.Needs.{needChecks}
-use Rattle.tables.specs.Verdict.{pastDiagonal, areas, parentsCheck, planChecks, planVerdict, systemChecks, systemVerdict}
+use Rattle.tables.specs.Verdict.{pastDiagonal, areas, planChecks, planVerdict, systemChecks, systemVerdict}
 use Rattle.tables.specs.Sound.{Columns}
 use Rattle.tables.proofs.CheckLaws.{values-go}
 use Rattle.tables.proofs.Sound.{plan-sound}
@@ -34,7 +34,7 @@ use Rattle.layout.proofs.PlanLaws.{plan-columns, plan-stored, plan-numbers}
 use Rattle.factor_tables.proofs.TableLaws.{sizes-count}
 use Rattle.factor_setup.specs.Exact as exact
 use Rattle.factor_core.specs.Factorize.{Places, firstList, planList, early, whole, answered}
-use Rattle.solve_checks.specs.Verdict.{solveChecks, solveVerdict}
+use Rattle.solve_checks.specs.Verdict.{treeCheck, solveChecks, solveVerdict}
 use Rattle.solve_match.specs.Fresh.{Fresh}
 use Rattle.solve_match.proofs.Fresh.{fresh-passes}
 use Rattle.solve.specs.Solve.{lentList, callVerdict}
@@ -49,7 +49,7 @@ module _ (dims starts rows perm late order parents lStarts lRows lOffsets : List
   columns : Columns pastDiagonal (length dims) lStarts lRows
   columns = rw (f .of-l-starts, f .of-l-rows) (plan-columns (linkedOf starts rows perm late) (length dims) (linked-symm (rowsIn starts rows) (moved perm late)))
 
-  tree-passes : refuses (planVerdict dims starts rows perm late) ≡ false → parentsCheck parents ≡ done
+  tree-passes : refuses (planVerdict dims starts rows perm late) ≡ false → treeCheck (length dims) parents ≡ done
   tree-passes passes =
       rw (f .of-parents)
       (parents-pass (linkedOf starts rows perm late) (length dims) (linked-symm (rowsIn starts rows) (moved perm late)) (plan-sound dims starts rows perm late passes .blocks))

@@ -8,10 +8,10 @@ use Rattle.graph.specs.Order.{Permutes}
 use Rattle.refusal.specs.Refusal.{Told, verdict}
 use Rattle.tables.specs.Verdict.{pastDiagonal}
 use Rattle.tables.specs.Sound.{Sizes, Ordered, Columns}
-use Rattle.tables.proofs.CheckLaws.{stops, goes, blocks-stop, blocks-go, dims-stop, dims-go, starts-stop, starts-go, stored-stop, stored-go, rows-stop, rows-go, parents-stop, parents-go, order-stop, order-go, values-stop, values-go, perm-stop, perm-go, late-stop, late-go}
+use Rattle.tables.proofs.CheckLaws.{stops, goes, blocks-stop, blocks-go, dims-stop, dims-go, starts-stop, starts-go, stored-stop, stored-go, rows-stop, rows-go, order-stop, order-go, values-stop, values-go, perm-stop, perm-go, late-stop, late-go}
 use Rattle.tables.proofs.TableLaws.{sizes-of, ordered-of, columns-of, permutes-of, flags-of}
 use Rattle.solve_checks.specs.Verdict.{solveChecks, solveVerdict}
-use Rattle.solve_checks.proofs.CheckLaws.{l-starts-stop, l-starts-go, l-rows-stop, l-rows-go, l-order-stop, l-order-go, at-end}
+use Rattle.solve_checks.proofs.CheckLaws.{l-starts-stop, l-starts-go, l-rows-stop, l-rows-go, tree-stop, tree-go, l-order-stop, l-order-go, at-end}
 use Rattle.solve_checks.proofs.check_solve.Statement.{statement}
 use Rattle.solve_checks.proofs.check_solve.Tie as tie
 
@@ -117,7 +117,7 @@ past-l-rows : (c : tie.Else7) → verdict (drop 7 (checks (start7 c))) ≡ verdi
 past-l-rows c = goes (drop 7 (checks (start7 c))) (l-rows-go _ _ _ _ (c .before .first-row2 .ensures) (c .if7 .left)) ∙ past-rows (up7 c)
 
 past-parents : (c : tie.Else8) → verdict (drop 8 (checks (start8 c))) ≡ verdict (checks (start8 c))
-past-parents c = goes (drop 8 (checks (start8 c))) (parents-go _ _ (c .before .first-parent .ensures) (c .if8 .left)) ∙ past-l-rows (up8 c)
+past-parents c = goes (drop 8 (checks (start8 c))) (tree-go _ _ _ (c .before .first-parent-of .ensures) (c .if8 .left)) ∙ past-l-rows (up8 c)
 
 past-order : (c : tie.Else9) → verdict (drop 9 (checks (start9 c))) ≡ verdict (checks (start9 c))
 past-order c = goes (drop 9 (checks (start9 c))) (order-go _ _ _ _ (c .before .first-fall .ensures) (c .if9 .left)) ∙ past-parents (up9 c)
@@ -191,7 +191,7 @@ returns-7 c = stops (drop 7 (checks (start6 (c .before .before)))) (l-rows-stop 
 
 returns-8 : tie.Need-returns-8
 unfolding solveVerdict
-returns-8 c = stops (drop 8 (checks (start7 (c .before .before)))) (parents-stop _ _ (c .before .first-parent .ensures) (c .if8 .taken)) refl ∙ past-l-rows (c .before .before)
+returns-8 c = stops (drop 8 (checks (start7 (c .before .before)))) (tree-stop _ _ _ (c .before .first-parent-of .ensures) (c .if8 .taken)) refl ∙ past-l-rows (c .before .before)
 
 returns-9 : tie.Need-returns-9
 unfolding solveVerdict
