@@ -85,12 +85,13 @@ fn tell_solved(s: Solved, told: &mut [u64; 3]) -> u32
         Solved::Blocks => carry(told, 1, 0, 0, 0),
         Solved::Dimension { place } => carry(told, 2, place as u64, 0, 0),
         Solved::Starts { place } => carry(told, 3, place as u64, 0, 0),
-        Solved::LStarts { place } => carry(told, 3, place as u64, 1, 0),
+        Solved::LStarts { place } => carry(told, 3, place as u64, 2, 0),
         Solved::Stored => carry(told, 4, 0, 0, 0),
         Solved::Row { place } => carry(told, 5, place as u64, 0, 0),
-        Solved::LRow { place } => carry(told, 5, place as u64, 1, 0),
+        Solved::LRow { place } => carry(told, 5, place as u64, 2, 0),
+        Solved::Parent { block } => carry(told, 5, block as u64, 1, 0),
         Solved::Order { place } => carry(told, 6, place as u64, 0, 0),
-        Solved::LOrder { place } => carry(told, 6, place as u64, 1, 0),
+        Solved::LOrder { place } => carry(told, 6, place as u64, 2, 0),
         Solved::LValues => carry(told, 7, 0, 0, 0),
         Solved::Permutation { place } => carry(told, 8, place as u64, 0, 0),
         Solved::Late { place } => carry(told, 9, place as u64, 0, 0),
@@ -98,7 +99,7 @@ fn tell_solved(s: Solved, told: &mut [u64; 3]) -> u32
         Solved::Mismatch { place } => carry(told, 12, place as u64, 0, 0),
         Solved::Missing { column } => carry(told, 12, 8, column as u64, 0),
         Solved::Extra { column } => carry(told, 12, 8, column as u64, 1),
-        Solved::Parent { column } => carry(told, 12, 6, column as u64, 2),
+        Solved::OtherParent { column } => carry(told, 12, 6, column as u64, 2),
     }
 }
 

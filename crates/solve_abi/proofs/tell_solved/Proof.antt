@@ -44,40 +44,45 @@ row c = tells-as _ _ (c .before .before .before .s4 .given .1) _ _ (c .carry7 .e
 l-row : tie.Need-returns-8
 l-row c = tells-as _ _ (c .before .before .before .s5 .given .1) _ _ (c .carry8 .ensures)
 
-order : tie.Need-returns-9
-order c = tells-as _ _ (c .before .before .before .s6 .given .1) _ _ (c .carry9 .ensures)
+parent : tie.Need-returns-9
+parent c = tells-as _ _ (c .before .before .before .s6 .given .1) _ _ (c .carry9 .ensures)
 
-l-order : tie.Need-returns-10
-l-order c = tells-as _ _ (c .before .before .before .s7 .given .1) _ _ (c .carry10 .ensures)
+order : tie.Need-returns-10
+order c = tells-as _ _ (c .before .before .before .s7 .given .1) _ _ (c .carry10 .ensures)
 
-l-values : tie.Need-returns-11
-l-values c = tells-as _ _ (c .before .before .enum-told4 .given .1) _ _ (c .carry11 .ensures)
+l-order : tie.Need-returns-11
+l-order c = tells-as _ _ (c .before .before .before .s8 .given .1) _ _ (c .carry11 .ensures)
 
-permutation : tie.Need-returns-12
-permutation c = tells-as _ _ (c .before .before .before .s8 .given .1) _ _ (c .carry12 .ensures)
+l-values : tie.Need-returns-12
+l-values c = tells-as _ _ (c .before .before .enum-told4 .given .1) _ _ (c .carry12 .ensures)
 
-late : tie.Need-returns-13
-late c = tells-as _ _ (c .before .before .before .s9 .given .1) _ _ (c .carry13 .ensures)
+permutation : tie.Need-returns-13
+permutation c = tells-as _ _ (c .before .before .before .s9 .given .1) _ _ (c .carry13 .ensures)
 
-short : tie.Need-returns-14
-short c = tells-as _ _ (c .before .before .before .s10 .given .1) _ _ (c .carry14 .ensures)
+late : tie.Need-returns-14
+late c = tells-as _ _ (c .before .before .before .s10 .given .1) _ _ (c .carry14 .ensures)
 
-mismatch : tie.Need-returns-15
-mismatch c = tells-as _ _ (c .before .before .before .s11 .given .1) _ _ (c .carry15 .ensures)
+short : tie.Need-returns-15
+short c = tells-as _ _ (c .before .before .before .s11 .given .1) _ _ (c .carry15 .ensures)
 
-missing : tie.Need-returns-16
-missing c = tells-as _ _ (c .before .before .before .s12 .given .1) _ _ (c .carry16 .ensures)
+mismatch : tie.Need-returns-16
+mismatch c = tells-as _ _ (c .before .before .before .s12 .given .1) _ _ (c .carry16 .ensures)
 
-extra : tie.Need-returns-17
-extra c = tells-as _ _ (c .before .before .before .s13 .given .1) _ _ (c .carry17 .ensures)
+missing : tie.Need-returns-17
+missing c = tells-as _ _ (c .before .before .before .s13 .given .1) _ _ (c .carry17 .ensures)
 
-parent : tie.Need-returns-18
-parent c = tells-as _ _ (c .before .before .before .s14 .given .1) _ _ (c .carry18 .ensures)
+extra : tie.Need-returns-18
+extra c = tells-as _ _ (c .before .before .before .s14 .given .1) _ _ (c .carry18 .ensures)
+
+other-parent : tie.Need-returns-19
+other-parent c = tells-as _ _ (c .before .before .before .s15 .given .1) _ _ (c .carry19 .ensures)
 
 pub tell-solved-spec : {M : Type 1} → statement M
 tell-solved-spec =
     tie.close
     (tie.spec
+    (λ c. search needs)
+    (λ c κs. search needs)
     (λ c. search needs)
     (λ c κs. search needs)
     (λ c. search needs)
@@ -122,6 +127,7 @@ tell-solved-spec =
     stored
     row
     l-row
+    parent
     order
     l-order
     l-values
@@ -131,4 +137,4 @@ tell-solved-spec =
     mismatch
     missing
     extra
-    parent)
+    other-parent)
