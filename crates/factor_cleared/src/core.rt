@@ -1,7 +1,7 @@
 // The factorization where the night's tables have passed and each buffer but L's rows, offsets and values has exactly its
 // need, its scratch cleared at the end.
 use factor_core::Factorized;
-use factor_core::core::fit;
+use factor_fit::core::fit;
 ghost use mathlib.Core.Path.{_≡_};
 ghost use lib.ListN.{length, replicate};
 ghost use Rattle.scalar.specs.Block.{zeros};

@@ -1,4 +1,4 @@
-// The outcome of a factorization, and its core: the plan, the needs that only the plan shows, the outputs.
+// The outcome of a factorization, the whole promise of it, and the needs that only the plan shows.
 pub mod core;
 
 use analysis::core::Counts;

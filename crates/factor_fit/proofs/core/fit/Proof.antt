@@ -1,4 +1,4 @@
--- `factor_core::core::fit` meets its contract. Assumes nothing.
+-- `factor_fit::core::fit` meets its contract. Assumes nothing.
 use Prim.Native.Nat.{ℕ, _+_, _≤_}
 use mathlib.Core.List.{_++_}
 use mathlib.Core.Path.{_≡_, refl, sym, ap, _∙_}
@@ -11,11 +11,12 @@ use Rattle.needs.specs.Needs as needs
 use Rattle.needs.specs.Needs.{needChecks}
 use Rattle.machine.specs.System.{System}
 use Rattle.factor_setup.specs.Exact.{system, stored, numbers}
 use Rattle.factor_core.specs.Factorize.{Places, lent}
 use Rattle.factor_core.specs.Written.{factorizedBy, planNeeds}
-use Rattle.factor_core.proofs.FitLaws.{met, told-needs, join-length, stored-is, numbers-are, few-stored, analyzed, fit-short, fit-made}
-use Rattle.factor_core.proofs.core.fit.Statement.{statement}
-use Rattle.factor_core.proofs.core.fit.Tie as tie
+use Rattle.factor_core.proofs.FitLaws.{met, told-needs, join-length}
+use Rattle.factor_fit.proofs.Laws.{stored-is, numbers-are, few-stored, analyzed, fit-short, fit-made}
+use Rattle.factor_fit.proofs.core.fit.Statement.{statement}
+use Rattle.factor_fit.proofs.core.fit.Tie as tie
 
 -- what is handed in and lent
 abbrev the-system : tie.Start → System
@@ -232,7 +233,9 @@ returns-2 c =
     let made = c .before .before .before .before .before .before .before .before .before .before .before .before .before .before .before .before .before .before .before .before .before .before .before .before .before .before .before .before .before .before .before .before .before .before .before .make-factor in
     let s = stored-is a (start .pre .0) (found .last .1 .1 .1 .1 .1 .1 .1 .0) (found .last .1 .1 .1 .1 .1 .1 .1 .1 .0) (found .last .1 .1 .1 .1 .1 .1 .1 .1 .1 .0) (found .last .1 .1 .1 .1 .1 .1 .1 .1 .1 .1 .1 .1 .0) (found .result) (found .ensures) in
     let m = numbers-are a (start .pre .0) (found .last .1 .1 .1 .1 .1 .1 .1 .0) (found .last .1 .1 .1 .1 .1 .1 .1 .1 .0) (found .last .1 .1 .1 .1 .1 .1 .1 .1 .1 .0) (found .last .1 .1 .1 .1 .1 .1 .1 .1 .1 .1 .1 .1 .0) (found .result) (found .ensures) in
-    fit-made a b _ _ (made .result) (made .last .1 .1 .1 .1 .1 .1 .1 .1 .1 .1 .0) (made .last .1 .1 .1 .1 .1 .1 .1 .1 .1 .1 .1 .0) (made .last .1 .1 .1 .1 .1 .1 .1 .1 .1 .1 .1 .1 .0) (made .last .1 .1 .1 .1 .1 .1 .1 .1 .1 .1 .1 .1 .1 .0) (made .last .1 .1 .1 .1 .1 .1 .1 .1 .1 .1 .1 .1 .1 .1 .0) (made .last .1 .1 .1 .1 .1 .1 .1 .1 .1 .1 .1 .1 .1 .1 .1 .0) (made .last .1 .1 .1 .1 .1 .1 .1 .1 .1 .1 .1 .1 .1 .1 .1 .1 .0) (made .last .1 .1 .1 .1 .1 .1 .1 .1 .1 .1 .1 .1 .1 .1 .1 .1 .1 .0) (made .ensures)
+    fit-made a b
+    (lent (made .last .1 .1 .1 .1 .1 .1 .1 .1 .1 .1 .0) (made .last .1 .1 .1 .1 .1 .1 .1 .1 .1 .1 .1 .0) (made .last .1 .1 .1 .1 .1 .1 .1 .1 .1 .1 .1 .1 .0) (made .last .1 .1 .1 .1 .1 .1 .1 .1 .1 .1 .1 .1 .1 .0 ++ drop (found .result .counts .stored) (b .lRows)) (made .last .1 .1 .1 .1 .1 .1 .1 .1 .1 .1 .1 .1 .1 .1 .0 ++ drop (found .result .counts .stored + 1) (b .lOffsets)) (made .last .1 .1 .1 .1 .1 .1 .1 .1 .1 .1 .1 .1 .1 .1 .1 .0 ++ drop (found .result .counts .numbers) (b .lValues)) (made .last .1 .1 .1 .1 .1 .1 .1 .1 .1 .1 .1 .1 .1 .1 .1 .1 .0) (made .last .1 .1 .1 .1 .1 .1 .1 .1 .1 .1 .1 .1 .1 .1 .1 .1 .1 .0) (made .last .1 .1 .1 .1 .1 .1 .1 .1 .1 .1 .1 .1 .1 .1 .1 .1 .1 .1 .0) (made .last .1 .1 .1 .1 .1 .1 .1 .1 .1 .1 .1 .1 .1 .1 .1 .1 .1 .1 .1 .0) (made .last .1 .1 .1 .1 .1 .1 .1 .1 .1 .1 .1 .1 .1 .1 .1 .1 .1 .1 .1 .1 .0) (made .last .1 .1 .1 .1 .1 .1 .1 .1 .1 .1 .1 .1 .1 .1 .1 .1 .1 .1 .1 .1 .1 .0) (found .last .1 .1 .1 .1 .1 .1 .1 .1 .0) (found .last .1 .1 .1 .1 .1 .1 .1 .1 .1 .0) (made .last .1 .1 .1 .1 .1 .1 .1 .1 .1 .1 .1 .1 .1 .1 .1 .1 .1 .1 .1 .1 .1 .1 .0) (found .last .1 .1 .1 .1 .1 .1 .1 .1 .1 .1 .1 .0) (found .last .1 .1 .1 .1 .1 .1 .1 .1 .1 .1 .1 .1 .0) (made .last .1 .1 .1 .1 .1 .1 .1 .1 .1 .1 .1 .1 .1 .1 .1 .1 .1 .1 .1 .1 .1 .1 .1 .0) (made .last .1 .1 .1 .1 .1 .1 .1 .1 .1 .1 .1 .1 .1 .1 .1 .1 .1 .1 .1 .1 .1 .1 .1 .1 .0) (made .last .1 .1 .1 .1 .1 .1 .1 .1 .1 .1 .1 .1 .1 .1 .1 .1 .1 .1 .1 .1 .1 .1 .1 .1 .1 .0) (made .last .1 .1 .1 .1 .1 .1 .1 .1 .1 .1 .1 .1 .1 .1 .1 .1 .1 .1 .1 .1 .1 .1 .1 .1 .1 .1 .0))
+    (c .factorized-by .result) (made .result) (made .last .1 .1 .1 .1 .1 .1 .1 .1 .1 .1 .0) (made .last .1 .1 .1 .1 .1 .1 .1 .1 .1 .1 .1 .0) (made .last .1 .1 .1 .1 .1 .1 .1 .1 .1 .1 .1 .1 .0) (made .last .1 .1 .1 .1 .1 .1 .1 .1 .1 .1 .1 .1 .1 .0) (made .last .1 .1 .1 .1 .1 .1 .1 .1 .1 .1 .1 .1 .1 .1 .0) (made .last .1 .1 .1 .1 .1 .1 .1 .1 .1 .1 .1 .1 .1 .1 .1 .0) (made .last .1 .1 .1 .1 .1 .1 .1 .1 .1 .1 .1 .1 .1 .1 .1 .1 .0) (made .last .1 .1 .1 .1 .1 .1 .1 .1 .1 .1 .1 .1 .1 .1 .1 .1 .1 .0) (made .ensures)
     (c .factorized-by .ensures ∙ ap (λ (k : ℕ). factorizedBy k (found .result .counts .numbers) (made .result)) s ∙ ap (λ (k : ℕ). factorizedBy (stored a) k (made .result)) m)
     (room-met (c .before .before .before .before .before .before .before .before .before .before .before .before .before .before .before .before .before .before .before .before .before .before .before .before .before .before .before .before .before .before .before .before .before .before .before .before .before .before .before .before .before .before .before .before .before .before .before .before .before .before .before .before .before .before .before .before) ∙ told-needs (length (b .lOffsets)) (length (b .lValues)) (length (b .lRows)) s m)
     refl refl refl (ap (λ (k : ℕ). made .last .1 .1 .1 .1 .1 .1 .1 .1 .1 .1 .1 .1 .1 .0 ++ drop k (b .lRows)) s) (ap (λ (k : ℕ). made .last .1 .1 .1 .1 .1 .1 .1 .1 .1 .1 .1 .1 .1 .1 .0 ++ drop (k + 1) (b .lOffsets)) s) (ap (λ (k : ℕ). made .last .1 .1 .1 .1 .1 .1 .1 .1 .1 .1 .1 .1 .1 .1 .1 .0 ++ drop k (b .lValues)) m) refl refl
