@@ -1,58 +1,14 @@
--- What the factorization answers where the tables or the needs decide. Assumes nothing.
-use Prim.Native.Nat.{ℕ, _+_}
-use mathlib.Core.Bool.{Bool, true, cond, false≢true}
-use mathlib.Core.List.{List, [], _∷_}
-use mathlib.Core.Path.{_≡_, sym, ap, subst, _∙_}
-use lib.ListN.{length}
-use Rattle.refusal.specs.Refusal.{Told, done, refuses, verdict, verdictAfter, after}
-use Rattle.refusal.proofs.Laws.{stays-refused, first-refuses}
-use Rattle.needs.specs.Needs.{lentFrom, needChecks}
+-- What the factorization answers where the tables decide. Assumes nothing.
+use mathlib.Core.Bool.{true}
+use mathlib.Core.Path.{_≡_, sym, ap, _∙_}
+use Rattle.refusal.specs.Refusal.{Told, done, refuses, verdict, verdictAfter}
+use Rattle.refusal.proofs.Laws.{stays-refused}
+use Rattle.needs.specs.Needs.{needChecks}
 use Rattle.tables.specs.Verdict.{systemVerdict}
-use Rattle.scalars.specs.Scalars.{scalarCount}
-use Rattle.machine.specs.System.{System, blocks}
-use Rattle.layout.specs.Layout.{unitsNeed, workNeed}
-use Rattle.factor_core.specs.Factorize.{told, Places, lengthsOf, firstList, planList, early, whole, Factors}
+use Rattle.machine.specs.System.{System}
+use Rattle.factor_core.specs.Factorize.{told, Places, firstList, early, Factors}
 use Rattle.factor_core.specs.declared.Factorized.{Factorized}
-
--- ---- refused before the plan: nothing is changed
-
--- a place is as it was where the verdict refuses
-unchanged : {A : Type 0} (v : Told) (old new : A) → refuses v ≡ true → old ≡ after v old new
-unchanged v old new stops = sym (ap (λ (t : Bool). cond t old new) stops)
-
--- the outcome is the verdict
-pub refused : (v : Told) (a : System) (b : Places) (r : Factorized) → told r ≡ v → refuses v ≡ true → Factors v a b r b
-unfolding whole
-refused v a b r e stops =
-    let w = whole v a b in
-    let stays : w ≡ v = stays-refused v (needChecks (planList a b)) stops in
-    let also : refuses w ≡ true = ap refuses stays ∙ stops in
-    record {
-      outcome = e ∙ (sym stays ∙ first-refuses w _ also);
-      order = unchanged w (b .order) _ also;
-      parents = unchanged w (b .parents) _ also;
-      lStarts = unchanged w (b .lStarts) _ also;
-      lRows = unchanged w (b .lRows) _ also;
-      lOffsets = unchanged w (b .lOffsets) _ also;
-      lValues = unchanged w (b .lValues) _ also;
-      diag = unchanged w (b .diag) _ also;
-      d = unchanged w (b .d) _ also;
-      column = unchanged v (b .column) _ stops;
-      inverse = unchanged v (b .inverse) _ stops;
-      sizes = unchanged v (b .sizes) _ stops;
-      count = unchanged v (b .count) _ stops;
-      heads = unchanged v (b .heads) _ stops;
-      into = unchanged v (b .into) _ stops;
-      stamps = unchanged v (b .stamps) _ stops;
-      table = unchanged v (b .table) _ stops;
-      upper = unchanged v (b .upper) _ stops;
-      bodies = unchanged v (b .bodies) _ stops;
-      unitStarts = unchanged v (b .unitStarts) _ stops;
-      dStarts = unchanged v (b .dStarts) _ stops;
-      places = unchanged v (b .places) _ stops;
-      liu = λ passes. absurd (false≢true (sym passes ∙ also));
-      demand3 = λ c is. absurd (false≢true (sym (ap (λ (t : Factorized). refuses (told t)) is) ∙ (ap refuses e ∙ stops)));
-    }
+use Rattle.factor_room.proofs.Laws.{refused}
 
 -- the tables are refused, and so is the call, in the same words
 pub tables-refused : (a : System) (b : Places) (r : Factorized) → refuses (told r) ≡ true → told r ≡ systemVerdict (a .dims) (a .starts) (a .rows) (a .values) (a .perm) (a .late) (a .tol) → Factors (early a b) a b r b
@@ -66,27 +22,3 @@ tables-refused a b r stops e =
 pub tables-passed : (a : System) (b : Places) → done ≡ systemVerdict (a .dims) (a .starts) (a .rows) (a .values) (a .perm) (a .late) (a .tol) → verdict (needChecks (firstList a b)) ≡ early a b
 unfolding early
 tables-passed a b e = ap (λ (t : Told). verdictAfter t (needChecks (firstList a b))) e
-
--- where two verdicts are one, so is what is promised under them
-pub same-verdict : (a : System) (b : Places) (r : Factorized) (c : Places) {v w : Told} → v ≡ w → Factors v a b r c → Factors w a b r c
-same-verdict a b r c e q = subst (λ (t : Told). Factors t a b r c) e q
-
--- ---- the needs that the code works out are those of the promise
-
--- the needs by the numbers of the unit factors, of d and of the working column
-abbrev workedNeeds : System → (units scalars work : ℕ) → List ℕ
-workedNeeds a units scalars work =
-    blocks a ∷ blocks a ∷ (blocks a + 1) ∷ 0 ∷ 0 ∷ 0
-    ∷ units ∷ scalars ∷ work ∷ blocks a ∷ blocks a ∷ blocks a
-    ∷ (blocks a + 1) ∷ (blocks a + 1) ∷ blocks a ∷ length (a .rows) ∷ length (a .rows) ∷ (length (a .rows) + 1)
-    ∷ (blocks a + 1) ∷ (blocks a + 1) ∷ blocks a ∷ []
-
-abbrev workedVerdict : System → (units scalars work : ℕ) → Places → Told
-workedVerdict a units scalars work b = verdict (needChecks (lentFrom 0 (lengthsOf b) (workedNeeds a units scalars work)))
-
-pub first-worked : (a : System) (b : Places) {units scalars work : ℕ} → units ≡ unitsNeed (a .dims) → scalars ≡ scalarCount (a .dims) → work ≡ workNeed (a .dims)
-    → workedVerdict a units scalars work b ≡ verdict (needChecks (firstList a b))
-first-worked a b {units} {scalars} {work} u s w =
-    ap (λ (x : ℕ). workedVerdict a x scalars work b) u
-    ∙ (ap (λ (x : ℕ). workedVerdict a (unitsNeed (a .dims)) x work b) s
-    ∙ ap (λ (x : ℕ). workedVerdict a (unitsNeed (a .dims)) (scalarCount (a .dims)) x b) w)

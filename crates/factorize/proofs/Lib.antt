@@ -1,2 +1,2 @@
 -- What belongs to no one function. Each module says at its top what it shows.
-pub mod Laws  -- what the factorization answers in each case
+pub mod Laws  -- what the factorization answers where the tables decide

@@ -1,41 +1,15 @@
 // The plan of a night, from A's tables, the permutation and the late flags: what L has in all, where each of its columns begins, and
 // its rows. Numbers are not read: the plan of a night holds for every night of the same pattern.
-pub mod core;
-
-use crate::core::planned_core;
-use analysis::core::Counts;
 use checks::PlanTables;
 use checks::check_plan;
 use needs::Room;
 use needs::first_short;
+pub use plan_core::Planned;
+use plan_core::core::planned_core;
 ghost use Rattle.refusal.specs.Refusal.{verdict};
 ghost use Rattle.needs.specs.Needs.{needChecks};
 ghost use Rattle.tables.specs.Sound.{PlanSound};
-ghost use Rattle.plan.specs.Plan.{night, places, Plans, firstList, early};
-
-// The outcome of `plan`.
-pub enum Planned {
-    // L's blocks below the diagonal, L's numbers, and the block products that make it.
-    Accepted(Counts),
-    // 1
-    Blocks,
-    // 2: the block.
-    Dimension { place: usize },
-    // 3: the entry of the column starts.
-    Starts { place: usize },
-    // 4
-    Stored,
-    // 5: the entry of the row table.
-    Row { place: usize },
-    // 6: the entry of the row table.
-    Order { place: usize },
-    // 8: the entry of the permutation.
-    Permutation { place: usize },
-    // 9: the late flag.
-    Late { place: usize },
-    // 11: which lent buffer, counted from 0 in the order of the call, and its need.
-    Short { which: usize, need: usize },
-}
+ghost use Rattle.plan_core.specs.Plan.{night, places, Plans, firstList, early};
 
 // The plan of n = dims.len() blocks with m = rows.len() stored. Outputs: `order`, the permutation after the late move (n);
 // `parents`, the elimination tree (n; none is 4,294,967,295); `l_starts` (n + 1) and `l_rows` (L's blocks), the rows of L below the

@@ -4,8 +4,8 @@ use mathlib.Core.List.{List, [], _∷_, _++_}
 use mathlib.Core.Path.{_≡_}
 use lib.ListN.{take}
 use Rattle.refusal.specs.Refusal as refusal
-use Rattle.plan.specs.Plan.{Night, Places, Plans, early, told}
-use Rattle.plan.specs.declared.Planned.{Planned}
+use Rattle.plan_core.specs.Plan.{Night, Places, Plans, early, told}
+use Rattle.plan_core.specs.declared.Planned.{Planned}
 
 -- the indices that an answer carries, in three places, with zeros after them
 abbrev pub carried : refusal.Told → List ℕ

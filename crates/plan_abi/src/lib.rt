@@ -4,8 +4,8 @@ use plan::Planned;
 ghost use mathlib.Core.List.{[], _∷_};
 ghost use mathlib.Core.Path.{_≡_};
 ghost use Rattle.refusal.specs.Refusal as refusal;
-ghost use Rattle.plan.specs.Plan.{night, places};
-ghost use Rattle.plan.specs.Plan as plan;
+ghost use Rattle.plan_core.specs.Plan.{night, places};
+ghost use Rattle.plan_core.specs.Plan as plan;
 ghost use Rattle.plan_abi.specs.Number.{carried, Exports};
 
 // The plan: `plan::plan`. Accepted, `told` has L's blocks, L's numbers and the products; refused, the place, or the buffer and its

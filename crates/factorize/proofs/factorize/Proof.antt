@@ -8,7 +8,8 @@ use Rattle.checks.specs.Outcome.{toldSystem}
 use Rattle.machine.specs.System.{System}
 use Rattle.factor_setup.specs.Exact.{system}
 use Rattle.factor_core.specs.Factorize.{Places, lent}
-use Rattle.factorize.proofs.Laws.{tables-refused, tables-passed, same-verdict}
+use Rattle.factor_room.proofs.Laws.{same-verdict}
+use Rattle.factorize.proofs.Laws.{tables-refused, tables-passed}
 use Rattle.factorize.proofs.factorize.Statement.{statement}
 use Rattle.factorize.proofs.factorize.Tie as tie
 

@@ -7,8 +7,9 @@ use lib.Seq.{length-take-le}
 use Rattle.refusal.specs.Refusal.{done, refuses, verdict}
 use Rattle.needs.specs.Needs as room
 use Rattle.needs.proofs.Laws.{all-met}
-use Rattle.plan.specs.Plan.{Night, Places, night, places, firstList}
-use Rattle.plan.proofs.Laws.{Roomy, join-length, refused, fronts-exact, lengthened}
+use Rattle.plan_core.specs.Plan.{Night, Places, night, places, firstList}
+use Rattle.plan_core.proofs.Laws.{join-length}
+use Rattle.plan.proofs.Laws.{Roomy, refused, fronts-exact, lengthened}
 use Rattle.plan.proofs.lent_core.Statement.{statement}
 use Rattle.plan.proofs.lent_core.Tie as tie
 

@@ -20,8 +20,8 @@ use Rattle.elimination_tree.specs.Tree.{decode, parentsOf}
 use Rattle.order.specs.Order.{sizesOf}
 use Rattle.symbolic.specs.Columns.{numbersOf}
 use Rattle.analysis.specs.Plan.{storedOf, productsIn, startsOf, rowsOf}
-use Rattle.plan.specs.declared.Planned.{Planned}
-use Rattle.plan.specs.declared.Planned.the-variants.{Accepted, Blocks, Dimension, Starts, Stored, Row, Order, Permutation, Late, Short}
+use Rattle.plan_core.specs.declared.Planned.{Planned}
+use Rattle.plan_core.specs.declared.Planned.the-variants.{Accepted, Blocks, Dimension, Starts, Stored, Row, Order, Permutation, Late, Short}
 
 -- document 01's number and values for each case; an accepted plan hands back L's blocks, L's numbers and the block products
 abbrev pub told : Planned → Told

@@ -1,4 +1,4 @@
--- `factorize::lent_core` meets its contract: the first short buffer, or the factorization in the first places of each. Assumes nothing.
+-- `factor_room::core::lent_core` meets its contract: the first short buffer, or the factorization in the first places of each. Assumes nothing.
 use mathlib.Core.Path.{_≡_, sym, ap, _∙_}
 use borrow.Author.Needs.{needs}
 use Rattle.refusal.specs.Refusal.{done, refuses, verdict}
@@ -8,9 +8,9 @@ use Rattle.machine.specs.System.{System}
 use Rattle.factor_setup.specs.Exact.{system}
 use Rattle.factor_core.specs.Factorize.{Places, lent, firstList}
 use Rattle.factor_lent.specs.Room.{Enough, Outputs, PlanScratch, NumberScratch}
-use Rattle.factorize.proofs.Laws.{refused, first-worked, same-verdict}
-use Rattle.factorize.proofs.lent_core.Statement.{statement}
-use Rattle.factorize.proofs.lent_core.Tie as tie
+use Rattle.factor_room.proofs.Laws.{refused, first-worked, same-verdict}
+use Rattle.factor_room.proofs.core.lent_core.Statement.{statement}
+use Rattle.factor_room.proofs.core.lent_core.Tie as tie
 
 -- what is handed in and lent
 abbrev the-system : tie.Start → System

@@ -1,41 +1,12 @@
 // The plan where the tables have passed and each buffer but L's row table has exactly its need.
 use crate::Planned;
+use scratch::core::clear_plan;
 ghost use mathlib.Core.Path.{_≡_};
 ghost use Prim.Native.Nat.{_+_};
 ghost use lib.ListN.{length, replicate};
 ghost use Rattle.refusal.specs.Refusal.{done};
 ghost use Rattle.tables.specs.Sound.{PlanSound};
-ghost use Rattle.plan.specs.Plan.{night, places, Plans, Exact};
-
-// Zeros in all scratch.
-pub fn clear(
-    inverse: &mut [u32],
-    sizes: &mut [u32],
-    count: &mut [u32],
-    heads: &mut [u32],
-    into: &mut [u32],
-    stamps: &mut [u32],
-    table: &mut [u32],
-    upper: &mut [u32],
-)
-    ensures { λ _. ⌜ now (inverse .exit) ≡ replicate (length (now (inverse .entry))) 0 ⌝ }
-    ensures { λ _. ⌜ now (sizes .exit) ≡ replicate (length (now (sizes .entry))) 0 ⌝ }
-    ensures { λ _. ⌜ now (count .exit) ≡ replicate (length (now (count .entry))) 0 ⌝ }
-    ensures { λ _. ⌜ now (heads .exit) ≡ replicate (length (now (heads .entry))) 0 ⌝ }
-    ensures { λ _. ⌜ now (into .exit) ≡ replicate (length (now (into .entry))) 0 ⌝ }
-    ensures { λ _. ⌜ now (stamps .exit) ≡ replicate (length (now (stamps .entry))) 0 ⌝ }
-    ensures { λ _. ⌜ now (table .exit) ≡ replicate (length (now (table .entry))) 0 ⌝ }
-    ensures { λ _. ⌜ now (upper .exit) ≡ replicate (length (now (upper .entry))) 0 ⌝ }
-{
-    buckets::core::fill(inverse, 0);
-    buckets::core::fill(sizes, 0);
-    buckets::core::fill(count, 0);
-    buckets::core::fill(heads, 0);
-    buckets::core::fill(into, 0);
-    buckets::core::fill(stamps, 0);
-    buckets::core::fill(table, 0);
-    buckets::core::fill(upper, 0);
-}
+ghost use Rattle.plan_core.specs.Plan.{night, places, Plans, Exact};
 
 // The tree and the counts in scratch, then the need of L's row table, then the outputs.
 pub fn planned_core(
@@ -80,7 +51,7 @@ pub fn planned_core(
     let counts = found.counts;
     let need = counts.stored;
     if l_rows.len() < need {
-        clear(inverse, sizes, count, heads, into, stamps, table, upper);
+        clear_plan(inverse, sizes, count, heads, into, stamps, table, upper);
         return Planned::Short { which: 3, need };
     }
     analysis::core::store(
@@ -95,6 +66,6 @@ pub fn planned_core(
     );
     order::core::move_late(perm, late, order);
     buckets::core::copy(heads, parents);
-    clear(inverse, sizes, count, heads, into, stamps, table, upper);
+    clear_plan(inverse, sizes, count, heads, into, stamps, table, upper);
     Planned::Accepted(counts)
 }
