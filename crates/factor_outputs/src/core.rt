@@ -1,6 +1,6 @@
 // The factorization in outputs that may be longer than their needs: it is worked out in the first places of each.
 use factor_core::Factorized;
-use factor_lent::core::lend_plan;
+use factor_lent::core::lend_scratch;
 ghost use Rattle.refusal.specs.Refusal.{done};
 ghost use Rattle.tables.specs.Sound.{SystemSound};
 ghost use Rattle.factor_setup.specs.Exact.{system};
@@ -47,7 +47,7 @@ pub fn lend(
     let n = dims.len();
     let units = factor_tables::core::unit_numbers(dims);
     let scalars = factor_tables::core::scalars(dims);
-    lend_plan(
+    lend_scratch(
         dims,
         starts,
         rows,
