@@ -387,32 +387,32 @@ static void wrong_marks(void)
 /* 3, 5, 6 of A's tables or of the factor's, whose rows begin past the diagonal. A refusal of the latter carries a 2. */
 static void wrong_columns(int starts, int rows)
 {
-    size_t n = now.len[DIMS], mine = starts == L_STARTS, mark = 2 * mine;
+    size_t n = now.len[DIMS], past = starts == L_STARTS, mine = 2 * past;
     words(starts)[0] = 1;
-    refused("3, not from 0", 3, 0, mark, 0);
+    refused("3, not from 0", 3, 0, mine, 0);
     words(starts)[n]++;
-    refused("3, not to the rows", 3, n, mark, 0);
+    refused("3, not to the rows", 3, n, mine, 0);
     words(starts)[n] = UINT32_MAX;
-    refused("3, far past the rows", 3, n, mark, 0);
+    refused("3, far past the rows", 3, n, mine, 0);
     now.len[starts] = n;
-    refused("3, one less", 3, n, mark, 0);
+    refused("3, one less", 3, n, mine, 0);
     now.len[starts] = n + 2;
-    refused("3, one more", 3, n + 1, mark, 0);
+    refused("3, one more", 3, n + 1, mine, 0);
     for (size_t j = 0; j < n; j++) {
         if (words(starts)[j] > 0) {
             words(starts)[j + 1] = words(starts)[j] - 1;
-            refused("3, falling", 3, j + 1, mark, 0);
+            refused("3, falling", 3, j + 1, mine, 0);
         }
         for (size_t p = words(starts)[j]; p < words(starts)[j + 1]; p++) {
             words(rows)[p] = (uint32_t)n;
-            refused("5, past the last block", 5, p, mark, 0);
-            if (j + mine > 0) {
-                words(rows)[p] = (uint32_t)(j + mine - 1);
-                refused("5, before the first", 5, p, mark, 0);
+            refused("5, past the last block", 5, p, mine, 0);
+            if (j + past > 0) {
+                words(rows)[p] = (uint32_t)(j + past - 1);
+                refused("5, before the first", 5, p, mine, 0);
             }
             if (p > words(starts)[j]) {
                 words(rows)[p] = words(rows)[p - 1];
-                refused("6, twice the same", 6, p, mark, 0);
+                refused("6, twice the same", 6, p, mine, 0);
             }
         }
     }
@@ -500,6 +500,23 @@ static void put_in(size_t k, size_t p, size_t row)
     lay_out();
 }
 
+/* 5: a parent that is not a greater block, nor none. */
+static void wrong_parents(void)
+{
+    size_t n = now.len[DIMS];
+    for (size_t k = 0; k < n; k++) {
+        words(PARENTS)[k] = (uint32_t)n;
+        refused("5, a parent past the last block", 5, k, 1, 0);
+        for (size_t block = 0; block <= k; block++) {
+            words(PARENTS)[k] = (uint32_t)block;
+            refused("5, a parent that is not greater", 5, k, 1, 0);
+        }
+    }
+    words(PARENTS)[n] = 0;
+    now.len[PARENTS]++;
+    refused("5, a parent too many that may not be", 5, n, 1, 0);
+}
+
 /* 12: the columns and the parents of the factor. */
 static void wrong_factor_columns(void)
 {
@@ -525,10 +542,6 @@ static void wrong_factor_columns(void)
             words(PARENTS)[k] = NONE;
             refused("12, no parent", 12, 6, k, 2);
         }
-        words(PARENTS)[k] = (uint32_t)k;
-        refused("5, a parent that is not greater", 5, k, 1, 0);
-        words(PARENTS)[k] = (uint32_t)n;
-        refused("5, a parent past the last block", 5, k, 1, 0);
     }
 }
 
@@ -567,6 +580,7 @@ static void wrong_tables(void)
     wrong_blocks();
     wrong_columns(STARTS, ROWS);
     wrong_columns(L_STARTS, L_ROWS);
+    wrong_parents();
     shorts();
     wrong_factor_columns();
     wrong_lists();

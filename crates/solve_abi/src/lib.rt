@@ -10,8 +10,9 @@ ghost use Rattle.solve.specs.Solve as solve;
 ghost use Rattle.marks.specs.Marks as marks;
 ghost use Rattle.solve_abi.specs.Number.{carried, ExportsSolve, ExportsMarks};
 
-// The solve: `solve::solve_inplace`, which names each slice. Accepted, `told` has zeros; refused, the place, and 1 where it is one of the
-// factor's tables, or the buffer and its need, or of a wrong column the table, the column and what is wrong, and zeros after.
+// The solve: `solve::solve_inplace`, which names each slice. Accepted, `told` has zeros; refused, the place, and 2 where it is in the
+// factor's starts or rows, 1 where it is in its parents, or the buffer and its need, or of a wrong column the table, the column and what is
+// wrong, and zeros after.
 #[no_mangle]
 pub extern "C" fn beyqaloosh_solve_inplace(
     dims: &[u32],
