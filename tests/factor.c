@@ -7,18 +7,7 @@
 #include <stdio.h>
 #include <string.h>
 
-uint32_t beyqaloosh_factorize(const uint32_t *dims, size_t dims_len, const uint32_t *starts, size_t starts_len, const uint32_t *rows,
-                              size_t rows_len, const double *values, size_t values_len, const uint32_t *perm, size_t perm_len,
-                              const uint32_t *late, size_t late_len, double tol, uint32_t *order, size_t order_len,
-                              uint32_t *parents, size_t parents_len, uint32_t *l_starts, size_t l_starts_len, uint32_t *l_rows,
-                              size_t l_rows_len, uint32_t *l_offsets, size_t l_offsets_len, double *l_values, size_t l_values_len,
-                              double *diag, size_t diag_len, double *d, size_t d_len, double *column, size_t column_len,
-                              uint32_t *inverse, size_t inverse_len, uint32_t *sizes, size_t sizes_len, uint32_t *count,
-                              size_t count_len, uint32_t *heads, size_t heads_len, uint32_t *into, size_t into_len,
-                              uint32_t *stamps, size_t stamps_len, uint32_t *table, size_t table_len, uint32_t *upper,
-                              size_t upper_len, uint32_t *bodies, size_t bodies_len, uint32_t *unit_starts, size_t unit_starts_len,
-                              uint32_t *d_starts, size_t d_starts_len, uint32_t *places, size_t places_len, uint64_t told[3],
-                              double value[1]);
+#include "beyqaloosh.h"
 
 enum {
     ORDER, PARENTS, L_STARTS, L_ROWS, L_OFFSETS, L_VALUES, DIAG, D, COLUMN, INVERSE, SIZES, COUNT, HEADS, INTO, STAMPS, TABLE, UPPER,

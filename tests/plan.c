@@ -5,13 +5,7 @@
 #include <stdio.h>
 #include <string.h>
 
-uint32_t beyqaloosh_plan(const uint32_t *dims, size_t dims_len, const uint32_t *starts, size_t starts_len, const uint32_t *rows,
-                         size_t rows_len, const uint32_t *perm, size_t perm_len, const uint32_t *late, size_t late_len,
-                         uint32_t *order, size_t order_len, uint32_t *parents, size_t parents_len, uint32_t *l_starts,
-                         size_t l_starts_len, uint32_t *l_rows, size_t l_rows_len, uint32_t *inverse, size_t inverse_len,
-                         uint32_t *sizes, size_t sizes_len, uint32_t *count, size_t count_len, uint32_t *heads, size_t heads_len,
-                         uint32_t *into, size_t into_len, uint32_t *stamps, size_t stamps_len, uint32_t *table, size_t table_len,
-                         uint32_t *upper, size_t upper_len, uint64_t told[3]);
+#include "beyqaloosh.h"
 
 enum { ORDER, PARENTS, L_STARTS, L_ROWS, INVERSE, SIZES, COUNT, HEADS, INTO, STAMPS, TABLE, UPPER, BUFFERS, ROOM = 16 };
 static const uint32_t GUARD = 777777777, NONE = UINT32_C(4294967295);

@@ -6,8 +6,7 @@
 #include <stdio.h>
 #include <string.h>
 
-uint32_t beyqaloosh_ldlt_decompose_inplace(size_t n, double *a, size_t a_len, double *d, size_t d_len, double tol);
-uint32_t beyqaloosh_decompose(size_t n, const double *a, size_t a_len, double *l, size_t l_len, double *d, size_t d_len, double tol);
+#include "beyqaloosh.h"
 
 static const uint64_t SPOILT = UINT64_C(0x7FF8000000000000);
 enum { MOST = 16, ROOM = MOST * MOST + 2 };
