@@ -1,4 +1,3 @@
 -- What belongs to no one function.
-pub mod GridLaws  -- a product of blocks by its entries, and the loops that write it
 pub mod SlotLaws  -- a slot of a flat list, read and written
 pub mod WorkingLaws  -- the machine's step on the flat list

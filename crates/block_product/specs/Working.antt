@@ -10,6 +10,7 @@ use lib.Dec.{T}
 use lib.Ieee.{Float}
 use lib.ListN.{length, take, drop}
 use Rattle.graph.specs.Sets.{elem}
+use Rattle.tiled_product.specs.Tiled.{timesDiag}
 use Rattle.machine.specs.Machine.{State, Column, columnAt, bodyOr, scaled, product}
 
 -- the `size` elements of x from `off` on
@@ -33,18 +34,21 @@ module _ (dim place : ℕ → ℕ) (on : List ℕ) (j : ℕ) where
 
 -- ---- one block product
 
+-- Q(j) d
+abbrev pub scaledByD : (dim : ℕ → ℕ) → Column → ℕ → ℕ → List Float
+scaledByD dim col j k = timesDiag (dim j) (dim k) (col .d) (scaled dim col j k)
+
 module _ (dim : ℕ → ℕ) (i j k : ℕ) where
-  -- what is lent of column k: L(i, k), the unit factor and d as they stand there, and Q(j) worked out
-  pub record Lent (li unit d qj : List Float) (col : Column) : Type 0 where
+  -- what is lent of column k: L(i, k) and the unit factor as they stand there, and Q(j) d worked out
+  pub record Lent (li unit qj : List Float) (col : Column) : Type 0 where
     pub by-body : li ≡ col .body i
     pub by-unit : unit ≡ col .unit
-    pub by-d : d ≡ col .d
-    pub by-q : qj ≡ scaled dim col j k
+    pub by-q : qj ≡ scaledByD dim col j k
 
   -- The column c and the count become c′ and count′; block (i, j) begins at `here`.
-  pub record OneProduct (here : ℕ) (li unit d qj c : List Float) (count : ℕ) (c′ : List Float) (count′ : ℕ) : Type 0 where
+  pub record OneProduct (here : ℕ) (li unit qj c : List Float) (count : ℕ) (c′ : List Float) (count′ : ℕ) : Type 0 where
     -- one greater
     pub counts : count′ ≡ count + 1
     -- the machine's step: where they showed a state, they show the one after the block product (i, j, k)
     pub step : (place : ℕ → ℕ) (on : List ℕ) → T (elem i on) → place i ≡ here → Apart dim place on j
-        → (s : State) → Lent li unit d qj (columnAt s k) → Shows dim place on j c count s → Shows dim place on j c′ count′ (product dim i j k s)
+        → (s : State) → Lent li unit qj (columnAt s k) → Shows dim place on j c count s → Shows dim place on j c′ count′ (product dim i j k s)

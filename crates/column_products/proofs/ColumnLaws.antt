@@ -6,6 +6,7 @@ use native.Mathlib.Omega.{arith}
 use lib.Ieee.{Float}
 use lib.ListN.{length}
 use Rattle.tables.specs.Verdict.{at}
+use Rattle.tiled_product.specs.Tiled.{timesDiag}
 use Rattle.machine.specs.Machine.{State, columnAt, matProduct}
 use Rattle.block_product.specs.Working.{slot}
 use Rattle.block_product.proofs.SlotLaws.{at-slot, slot-length}
@@ -36,10 +37,10 @@ module _ (p : Plan) (j k from end : ℕ) (le : from ≤ end) where
           block = λ t h. rw (at-slot (p .lRows) from (end - from) t (omega (arith, rows-length))) (fits .block (from + t) (omega arith) (omega (arith, rows-length)));
         }
 
-    -- the rows' products, with Q(j) made from row j, are the column's
+    -- the rows' products, with Q(j) d made from row j, are the column's
     pub column-products : (vs diag d qj cl c′ : List Float) (count count′ : ℕ) → from < end → at (p .lRows) from ≡ j
-        → qj ≡ matProduct (sizeOf p j) (sizeOf p k) (sizeOf p k) (slot (at (p .lOffsets) from) (sizeOf p j * sizeOf p k) vs) (slot (at (p .unitStarts) k) (sizeOf p k * sizeOf p k) diag)
-        → RowProducts (sizeOf p) (placeOf p) j k rows offsets vs (slot (at (p .unitStarts) k) (sizeOf p k * sizeOf p k) diag) (slot (at (p .dStarts) k) (sizeOf p k) d) qj cl count c′ count′
+        → qj ≡ timesDiag (sizeOf p j) (sizeOf p k) (slot (at (p .dStarts) k) (sizeOf p k) d) (matProduct (sizeOf p j) (sizeOf p k) (sizeOf p k) (slot (at (p .lOffsets) from) (sizeOf p j * sizeOf p k) vs) (slot (at (p .unitStarts) k) (sizeOf p k * sizeOf p k) diag))
+        → RowProducts (sizeOf p) (placeOf p) j k rows offsets vs (slot (at (p .unitStarts) k) (sizeOf p k * sizeOf p k) diag) qj cl count c′ count′
         → ColumnProducts p j k from end vs diag d cl count c′ count′
     column-products vs diag d qj cl c′ count count′ lt at-j q r =
         record {
@@ -51,8 +52,7 @@ module _ (p : Plan) (j k from end : ℕ) (le : from ≤ end) where
                     rw (at-slot (p .lRows) from (end - from) t (omega (arith, rows-length)), at-slot (p .lOffsets) from (end - from) t (omega (arith, rows-length)))
                     (holds .bodies (from + t) (omega arith) (omega (arith, rows-length)));
                 by-unit = holds .by-unit;
-                by-d = holds .by-d;
-                by-q = q ∙ rw (holds .by-unit) (ap (λ (b : List Float). matProduct (sizeOf p j) (sizeOf p k) (sizeOf p k) b (columnAt s k .unit)) (first s holds));
+                by-q = q ∙ rw (holds .by-unit, holds .by-d) (ap (λ (b : List Float). timesDiag (sizeOf p j) (sizeOf p k) (columnAt s k .d) (matProduct (sizeOf p j) (sizeOf p k) (sizeOf p k) b (columnAt s k .unit))) (first s holds));
               });
         }
       where

@@ -1,5 +1,5 @@
 // The block products of column j by column k, where the plan's tables are known to be good.
-use block_product::core::multiply;
+use block_product::core::multiply_diag;
 use row_products::core::apply_rows;
 ghost use mathlib.Core.Path.{_≡_};
 ghost use Prim.Native.Nat.{_+_, _-_, _<_, _^_};
@@ -7,7 +7,7 @@ ghost use lib.ListN.{length};
 ghost use Rattle.tables.specs.Verdict.{at};
 ghost use Rattle.column_products.specs.Columns.{plan, PlacesFit, FactorsFit, ColumnProducts};
 
-// By column k, whose row j stands at place `from` of the tables, and whose last row before `end`. Q(j) is worked out once.
+// By column k, whose row j stands at place `from` of the tables, and whose last row before `end`. Q(j) d is worked out once.
 pub fn apply_column(
     sizes: &[u32],
     places: &[u32],
@@ -41,12 +41,12 @@ pub fn apply_column(
     let u_end = u + wk * wk;
     let s = d_starts[k] as usize;
     let s_end = s + wk;
-    multiply(
+    multiply_diag(
         hj,
-        wk,
         wk,
         &values[o..o_end],
         &diag[u..u_end],
+        &d[s..s_end],
         &mut qj[..room],
     );
     apply_rows(
@@ -58,7 +58,6 @@ pub fn apply_column(
         k,
         values,
         &diag[u..u_end],
-        &d[s..s_end],
         &qj[..room],
         qi,
         c,

@@ -1,18 +1,15 @@
 -- What the exported factorization answers: the number of an outcome of `factorize::factorize` and what it carries. Assumes nothing.
 use Prim.Native.Nat.{ℕ}
-use mathlib.Core.List.{List, [], _∷_, _++_}
+use mathlib.Core.List.{List, _++_}
 use mathlib.Core.Path.{_≡_}
 use lib.Ieee.{Float}
 use lib.ListN.{take}
 use Rattle.scalar.specs.Block.{zeros}
 use Rattle.refusal.specs.Refusal as refusal
+use Rattle.report.specs.Report.{carried}
 use Rattle.machine.specs.System.{System}
 use Rattle.factor_core.specs.Factorize.{Places, Factors, early, told}
 use Rattle.factor_core.specs.declared.Factorized.{Factorized}
-
--- the indices that an answer carries, in three places, with zeros after them
-abbrev pub carried : refusal.Told → List ℕ
-carried (refusal.tells n is xs) = take 3 (is ++ 0 ∷ 0 ∷ 0 ∷ [])
 
 -- the float that an answer carries, or 0.0
 abbrev pub carriedFloat : refusal.Told → List Float

@@ -4,10 +4,11 @@ use factor_core::Factorized;
 ghost use mathlib.Core.List.{[], _∷_};
 ghost use mathlib.Core.Path.{_≡_};
 ghost use Rattle.refusal.specs.Refusal as refusal;
+ghost use Rattle.report.specs.Report.{carried};
 ghost use Rattle.factor_setup.specs.Exact.{system};
 ghost use Rattle.factor_core.specs.Factorize.{lent};
 ghost use Rattle.factor_core.specs.Factorize as core;
-ghost use Rattle.factor_abi.specs.Number.{carried, carriedFloat, Exports};
+ghost use Rattle.factor_abi.specs.Number.{carriedFloat, Exports};
 
 // The factorization: `factorize::factorize`, which names each slice. Accepted, `told` has L's blocks, L's numbers and the products;
 // refused, the place, or the buffer and its need, or the block and the place in it, and zeros after. `value` has the pivot of 13 or

@@ -1,12 +1,13 @@
--- The rows of a column by their places, and what the end of the search by halving says of the column. Assumes nothing.
+-- The rows of a column by their places, the place of a row, and what the end of the search by halving says of the column. Assumes nothing.
 use Prim.Native.Nat.{ℕ, suc, _+_, _-_, _≤_, _<_}
-use mathlib.Core.Bool.{false}
+use mathlib.Core.Bool.{Bool, true, false}
 use mathlib.Core.List.{List, [], _∷_}
 use mathlib.Core.Logic.{⊎-elim}
 use mathlib.Core.Path.{_≡_, sym, ap, subst, _∙_}
 use native.Mathlib.Nat.{eq-or-lt-of-le}
 use native.Mathlib.Omega.{arith}
-use lib.Dec.{T, eqb, eqb→eq}
+use borrow.Author.Tests.{ltb-true, ltb-false, lt-ltb, le-ltb}
+use lib.Dec.{T, eqb, ltb, eqb→eq}
 use lib.ListN.{length, take}
 use lib.Seq.{slice, slice-cons, slice-empty, getD-take, getD-drop, length-slice}
 use Rattle.graph.specs.Sets.{elem}
@@ -14,9 +15,10 @@ use Rattle.graph.specs.Links.{rowsIn}
 use Rattle.graph.proofs.SetLaws.{eqb-of, false-of}
 use Rattle.graph.proofs.CountLaws.{same-test}
 use Rattle.buckets.proofs.Lists.{elem-at}
+use Rattle.tables.specs.Search.{first}
 use Rattle.tables.specs.Verdict.{at}
 use Rattle.tables.specs.Sound.{Columns}
-use Rattle.tables.proofs.SearchLaws.{lt-or-ge}
+use Rattle.tables.proofs.SearchLaws.{lt-or-ge, first-ge, first-before, first-fails, first-none, first-at, first-past, first-end}
 use Rattle.tables.proofs.TableLaws.{place-of}
 use Rattle.load_column.specs.Blocks.{ColumnRises}
 use Rattle.load_column.proofs.FindLaws.{Halved}
@@ -52,6 +54,46 @@ module _ {least : ℕ → ℕ} {n : ℕ} {starts rows : List ℕ} (c : Columns l
 
   pub listed-place : (x : ℕ) → T (elem x (rowsIn starts rows j)) → (p : ℕ) × (at starts j ≤ p) × (p < at starts (j + 1)) × (at rows p ≡ x)
   listed-place = slice-place rows (at starts j) (at starts (j + 1)) (c .ordered .inside (j + 1) (omega arith))
+
+-- ---- the place of a row: the first whose row is not below it
+
+module _ {starts rows : List ℕ} {row column : ℕ} (c : ColumnRises starts rows column) where
+  -- a search that begins behind rows which are below
+  pub halved-from : (from : ℕ) → at starts column ≤ from → from ≤ at starts (column + 1) → ((p : ℕ) → at starts column ≤ p → p < from → at rows p < row) → Halved starts rows row column from (at starts (column + 1))
+  halved-from from a b below = record { low = a; ordered = b; high = omega arith; before = below; behind = λ p h l. absurd (omega arith) }
+
+  pub place-met : {lo hi : ℕ} → Halved starts rows row column lo hi → hi ≤ lo → lo ≡ first (λ p. ltb (at rows p) row) (at starts column) (at starts (column + 1))
+  place-met {lo} {hi} g met =
+      ⊎-elim
+      (λ h. sym (first-at (λ p. ltb (at rows p) row) (at starts column) lo (at starts (column + 1)) (g .low) h below (le-ltb (at rows lo) row (g .behind lo met h))))
+      (λ h. sym (first-past (λ p. ltb (at rows p) row) (at starts column) lo (at starts (column + 1)) (g .low) (omega (arith, g .ordered, g .high)) below ∙ first-end (λ p. ltb (at rows p) row) lo (at starts (column + 1)) h))
+      (lt-or-ge lo (at starts (column + 1)))
+    where
+      below : (p : ℕ) → at starts column ≤ p → p < lo → ltb (at rows p) row ≡ true
+      below p a b = lt-ltb (at rows p) row (g .before p a b)
+
+  pub halved-at : (place : ℕ) → place ≡ first (λ p. ltb (at rows p) row) (at starts column) (at starts (column + 1)) → Halved starts rows row column place place
+  halved-at place e =
+      record { low = rw e (first-ge test (at starts column) (at starts (column + 1))); ordered = omega arith; high = high; before = below; behind = behind }
+    where
+      test : ℕ → Bool
+      test p = ltb (at rows p) row
+
+      below : (p : ℕ) → at starts column ≤ p → p < place → at rows p < row
+      below p a b = ltb-true (at rows p) row (first-before test (at starts column) (at starts (column + 1)) p a (rw e at b))
+
+      high : place ≤ at starts (column + 1)
+      high = ⊎-elim (λ (h : place < at starts (column + 1)). omega arith)
+          (λ (h : at starts (column + 1) ≤ place).
+          let z = first-past test (at starts column) (at starts (column + 1)) (at starts (column + 1)) (c .inside .0) (omega arith) (first-none test (at starts column) (at starts (column + 1)) (rw e at h)) in
+          omega (arith, e, z, first-end test (at starts (column + 1)) (at starts (column + 1)) (omega arith)))
+          (lt-or-ge place (at starts (column + 1)))
+
+      behind : (p : ℕ) → place ≤ p → p < at starts (column + 1) → row ≤ at rows p
+      behind p a b =
+          let l : first test (at starts column) (at starts (column + 1)) < at starts (column + 1) = omega (arith, e) in
+          let here : row ≤ at rows place = rw e (ltb-false (at rows (first test (at starts column) (at starts (column + 1)))) row (first-fails test (at starts column) (at starts (column + 1)) (c .inside .0) l)) in
+          ⊎-elim (λ (z : place ≡ p). rw z at here) (λ s. let r = c .rises place p (rw e (first-ge test (at starts column) (at starts (column + 1)))) s b in omega arith) (eq-or-lt-of-le a)
 
 -- ---- the end of the search
 

@@ -33,8 +33,17 @@ module _ {given : ℕ → ℕ → Bool} {listed : ℕ → List ℕ} {n : ℕ} {D
   low-all g all = record { within = g .within; before = λ k i h l b t. g .before k i h (all i k l b t); here = g .here }
 
   module _ {Done′ : ℕ → ℕ → Type 0} {r : ℕ} (g : Low given listed n Done r) where
+    -- where the pairs since then are listed
+    pub low-keep : ((i k : ℕ) → k < r → Done′ i k → Done i k ⊎ T (elem i (listed k))) → Low given listed n Done′ r
+    low-keep back = record { within = g .within; before = λ k i h d. ⊎-elim (λ d′. g .before k i h d′) (λ m. m) (back i k h d); here = g .here }
+
+    -- where one of column k, which is lower, is not
+    pub low-down : (i k : ℕ) → k < r → k < i → i < n → T (given i k) → (T (elem i (listed k)) → ⊥) → ((i′ k′ : ℕ) → k′ < k → Done′ i′ k′ → Done i′ k′) → Low given listed n Done′ k
+    low-down i k less l b t lacks back =
+        record { within = omega (arith, g .within); before = λ k′ i′ h d. g .before k′ i′ (omega arith) (back i′ k′ h d); here = λ h. (i, l, b, t, lacks) }
+
     pub low-skip : ((i k : ℕ) → Done′ i k → Done i k) → Low given listed n Done′ r
-    low-skip back = record { within = g .within; before = λ k i h d. g .before k i h (back i k d); here = g .here }
+    low-skip back = low-keep (λ i k h d. inl (back i k d))
 
     -- one pair more
     pub low-more : (i k : ℕ) → k < i → i < n → T (given i k) → ((i′ k′ : ℕ) → Done′ i′ k′ → Done i′ k′ ⊎ ((i′ ≡ i) × (k′ ≡ k))) → Low given listed n Done′ (lowered listed i k r)
@@ -43,18 +52,11 @@ module _ {given : ℕ → ℕ → Bool} {listed : ℕ → List ℕ} {n : ℕ} {D
       where
         go : (x : Bool) → (ltb k r && not (elem i (listed k))) ≡ x → Low given listed n Done′ (cond x k r)
         go true e =
-            let less : k < r = ltb-true k r (and-left (ltb k r) (not (elem i (listed k))) e) in
-            record {
-              within = omega arith;
-              before = λ k′ i′ h d. ⊎-elim (λ d′. g .before k′ i′ (omega arith) d′) (λ q. absurd (omega (arith, q .1))) (back i′ k′ d);
-              here = λ h. (i, l, b, t, is-false (not-true (elem i (listed k)) (and-right (ltb k r) (not (elem i (listed k))) e)));
-            }
+            low-down i k (ltb-true k r (and-left (ltb k r) (not (elem i (listed k))) e)) l b t
+            (is-false (not-true (elem i (listed k)) (and-right (ltb k r) (not (elem i (listed k))) e)))
+            (λ i′ k′ h d. ⊎-elim (λ d′. d′) (λ q. absurd (omega (arith, q .1))) (back i′ k′ d))
         go false e =
-            record {
-              within = g .within;
-              before = λ k′ i′ h d. ⊎-elim (λ d′. g .before k′ i′ h d′) (λ q. same k′ i′ h (q .0) (q .1) (decide (elem i (listed k)))) (back i′ k′ d);
-              here = g .here;
-            }
+            low-keep (λ i′ k′ h d. ⊎-elim (λ d′. inl d′) (λ q. inr (same k′ i′ h (q .0) (q .1) (decide (elem i (listed k))))) (back i′ k′ d))
           where
             same : (k′ i′ : ℕ) → k′ < r → i′ ≡ i → k′ ≡ k → T (elem i (listed k)) ⊎ (T (elem i (listed k)) → ⊥) → T (elem i′ (listed k′))
             same k′ i′ h p q (inl m) = rw (p, q) m
@@ -77,6 +79,12 @@ module _ {starts : List ℕ} {n m : ℕ} (o : Ordered starts n m) (Pair : ℕ �
   pub passed-none : (i k : ℕ) → Passed starts n Pair (at starts 0) i k → ⊥
   passed-none i k p = omega (arith, p .earlier, o .begins)
 
+  -- the pair of a place in column c
+  pair-of : {u : ℕ} (c i k : ℕ) → c < n → (p : Passed starts n Pair u i k) → at starts c ≤ p .place → p .place < at starts (c + 1) → Pair (p .place) c i k
+  pair-of c i k h p lo hi =
+      let z : p .column ≡ c = sym (column-is o (p .column) (p .place) (p .known) (p .inside .0) (p .inside .1)) ∙ column-is o c (p .place) h lo hi in
+      subst (λ (x : ℕ). Pair (p .place) x i k) z (p .pair)
+
   pub passed-next : (c u i k : ℕ) → c < n → at starts c ≤ u → u < at starts (c + 1) → Passed starts n Pair (u + 1) i k → Passed starts n Pair u i k ⊎ Pair u c i k
   passed-next c u i k h lo hi p = ⊎-elim
       (λ s. inl (record { place = p .place; column = p .column; earlier = s; known = p .known; inside = p .inside; pair = p .pair }))
@@ -84,11 +92,14 @@ module _ {starts : List ℕ} {n m : ℕ} (o : Ordered starts n m) (Pair : ℕ �
       (lt-or-ge (p .place) u)
     where
       last : p .place ≡ u → Pair u c i k
-      last e =
-          let f : at starts (p .column) ≤ u = omega (arith, p .inside .0) in
-          let g : u < at starts (p .column + 1) = omega (arith, p .inside .1) in
-          let z : p .column ≡ c = sym (column-is o (p .column) u (p .known) f g) ∙ column-is o c u h lo hi in
-          subst (λ (x : ℕ). Pair u x i k) z (subst (λ (x : ℕ). Pair x (p .column) i k) e (p .pair))
+      last e = subst (λ (x : ℕ). Pair x c i k) e (pair-of c i k h p (omega arith) (omega arith))
+
+  -- those of a whole column
+  pub passed-column : (c i k : ℕ) → c < n → Passed starts n Pair (at starts (c + 1)) i k → Passed starts n Pair (at starts c) i k ⊎ ((p : ℕ) × (at starts c ≤ p) × (p < at starts (c + 1)) × Pair p c i k)
+  passed-column c i k h p = ⊎-elim
+      (λ s. inl (record { place = p .place; column = p .column; earlier = s; known = p .known; inside = p .inside; pair = p .pair }))
+      (λ s. inr (p .place, s, p .earlier, pair-of c i k h p s (p .earlier)))
+      (lt-or-ge (p .place) (at starts c))
 
 -- ---- one step of it
 

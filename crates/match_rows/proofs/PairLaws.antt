@@ -4,20 +4,22 @@ use mathlib.Core.Bool.{Bool, true, false, cond, not, _&&_}
 use mathlib.Core.List.{List}
 use mathlib.Core.Logic.{_⊎_, inl, inr, ⊎-elim}
 use mathlib.Core.Path.{_≡_, refl, sym, ap, subst, _∙_}
+use native.Mathlib.Nat.{eq-or-lt-of-le}
 use native.Mathlib.Omega.{arith}
 use borrow.Author.Tests.{eqb-true, eqb-false, eq-eqb, ne-eqb}
 use lib.Dec.{T, eqb}
 use Rattle.graph.specs.Sets.{elem, gather}
 use Rattle.graph.specs.Links.{rowsIn, linkedIn}
-use Rattle.graph.proofs.SetLaws.{eqb-of}
+use Rattle.graph.proofs.SetLaws.{eqb-of, is-true, is-false}
+use Rattle.tables.specs.Search.{first}
 use Rattle.tables.specs.Verdict.{at, fromDiagonal, pastDiagonal}
 use Rattle.tables.specs.Sound.{Columns}
-use Rattle.tables.proofs.SearchLaws.{lt-or-ge}
+use Rattle.tables.proofs.SearchLaws.{lt-or-ge, first-ge, first-none, first-fails}
 use Rattle.tables.proofs.ColumnLaws.{starts-rise}
 use Rattle.order.specs.Order.{Inverse}
 use Rattle.match_rows.specs.Rows.{heads, children, passedOn, lowered, loweredBy, Lowest}
 use Rattle.match_rows.proofs.HalvedLaws.{rises-of, listed-at, listed-place, heads-at, heads-is}
-use Rattle.match_rows.proofs.LowLaws.{Low, low-none, low-all, low-skip, low-more, Passed, passed-none, passed-next}
+use Rattle.match_rows.proofs.LowLaws.{Low, low-none, low-all, low-keep, low-down, low-skip, low-more, Passed, passed-none, passed-next, passed-column}
 use Rattle.match_rows.proofs.ChildLaws.{children-elim, children-intro, gather-elim, gather-intro}
 
 and-split : (a b : Bool) → T (a && b) → T a × T b
@@ -131,21 +133,46 @@ module _ (starts rows : List ℕ) (n : ℕ) (columns : Columns pastDiagonal n st
   pub rowing-none : Rowing starts rows n (at starts 0) n
   rowing-none = low-none (passed-none (columns .ordered) (Rowed starts rows))
 
-  module _ (c u r : ℕ) (h : c < n) (lo : at starts c ≤ u) (hi : u < at starts (c + 1)) (g : Rowing starts rows n u r) where
-    pub rowing-skip : u ≤ at starts c → Rowing starts rows n (u + 1) r
-    rowing-skip e =
-        let z : u ≡ at starts c = omega arith in
-        low-skip g (λ i k p. ⊎-elim (λ q. q) (λ q. let w : at rows u ≡ at rows (at starts c) = ap (at rows) z in absurd (omega (arith, q .0, q .1, q .2))) (passed-next (columns .ordered) (Rowed starts rows) c u i k h lo hi p))
+  -- one column more
+  module _ (c r : ℕ) (h : c < n) (g : Rowing starts rows n (at starts c) r) where
+    abbrev k : ℕ
+    k = at rows (at starts c)
 
-    pub rowing-next : at starts c < u → Rowing starts rows n (u + 1) (lowered (rowsIn starts rows) (at rows u) (at rows (at starts c)) r)
-    unfolding passedOn
-    rowing-next l =
-        let k = at rows (at starts c) in
-        let i = at rows u in
-        let first : T (heads (rowsIn starts rows c) k) = subst T (sym (heads-at (rises-of columns c h) k (omega arith))) (eqb-of {x = k} refl) in
-        low-more g i k (columns .rises c (at starts c) u h (omega arith) l hi) (columns .ranged c u h lo hi .1)
-        (gather-intro (rowsIn starts rows) i c (children (rowsIn starts rows) k n) (children-intro (rowsIn starts rows) k n c h first) (listed-at columns c h u lo hi))
-        (λ i′ k′ p. ⊎-elim (λ z. inl z) (λ z. inr (z .1, z .2)) (passed-next (columns .ordered) (Rowed starts rows) c u i′ k′ h lo hi p))
+    -- does its parent list the row at place u?
+    abbrev listed : ℕ → Bool
+    listed u = elem (at rows u) (rowsIn starts rows k)
+
+    back : (i k′ : ℕ) → Passed starts n (Rowed starts rows) (at starts (c + 1)) i k′ → Passed starts n (Rowed starts rows) (at starts c) i k′ ⊎ ((p : ℕ) × (at starts c ≤ p) × (p < at starts (c + 1)) × Rowed starts rows p c i k′)
+    back i k′ p = passed-column (columns .ordered) (Rowed starts rows) c i k′ h p
+
+    -- behind its first place, as the rows rise
+    past : (p : ℕ) → at starts c ≤ p → at rows (at starts c) < at rows p → at starts c + 1 ≤ p
+    past p a l = ⊎-elim (λ (z : at starts c ≡ p). let w : at rows (at starts c) ≡ at rows p = ap (at rows) z in absurd (omega arith)) (λ s. omega arith) (eq-or-lt-of-le a)
+
+    pub rowing-empty : at starts (c + 1) ≤ at starts c → Rowing starts rows n (at starts (c + 1)) r
+    rowing-empty e = low-skip g (λ i k′ p. ⊎-elim (λ q. q) (λ q. absurd (omega (arith, q .1, q .2))) (back i k′ p))
+
+    pub rowing-above : r ≤ k → Rowing starts rows n (at starts (c + 1)) r
+    rowing-above e = low-keep g (λ i k′ l p. ⊎-elim (λ q. inl q) (λ q. absurd (omega (arith, q .3 .2))) (back i k′ p))
+
+    module _ (u : ℕ) (f : u ≡ first listed (at starts c + 1) (at starts (c + 1))) where
+      pub rowing-passed : at starts (c + 1) ≤ u → Rowing starts rows n (at starts (c + 1)) r
+      rowing-passed e =
+          low-keep g (λ i k′ l p. ⊎-elim (λ q. inl q) (λ q. inr (row i k′ (q .0) (q .1) (q .2) (q .3))) (back i k′ p))
+        where
+          row : (i k′ p : ℕ) → at starts c ≤ p → p < at starts (c + 1) → Rowed starts rows p c i k′ → T (elem i (rowsIn starts rows k′))
+          row i k′ p a b q =
+              rw (q .1, q .2) (is-true (first-none listed (at starts c + 1) (at starts (c + 1)) (rw f at e) p (past p a (omega (arith, q .0, q .1, q .2))) b))
+
+      pub rowing-down : at starts c < at starts (c + 1) → k < r → u < at starts (c + 1) → Rowing starts rows n (at starts (c + 1)) k
+      unfolding passedOn
+      rowing-down some less e =
+          let lo : at starts c + 1 ≤ u = rw f (first-ge listed (at starts c + 1) (at starts (c + 1))) in
+          let head : T (heads (rowsIn starts rows c) k) = subst T (sym (heads-at (rises-of columns c h) k some)) (eqb-of {x = k} refl) in
+          low-down g (at rows u) k less (columns .rises c (at starts c) u h (omega arith) (omega arith) e) (columns .ranged c u h (omega arith) e .1)
+          (gather-intro (rowsIn starts rows) (at rows u) c (children (rowsIn starts rows) k n) (children-intro (rowsIn starts rows) k n c h head) (listed-at columns c h u (omega arith) e))
+          (is-false (rw (← f) at (first-fails listed (at starts c + 1) (at starts (c + 1)) (omega arith) (rw f at e))))
+          (λ i k′ l p. ⊎-elim (λ q. q) (λ q. absurd (omega (arith, q .3 .2))) (back i k′ p))
 
   pub rowing-all : (r : ℕ) → Rowing starts rows n (at starts n) r → Lowest (passedOn (rowsIn starts rows) n) (rowsIn starts rows) n r
   unfolding passedOn

@@ -11,7 +11,7 @@ use tables::core::wide;
 ghost use mathlib.Core.Path.{_≡_};
 ghost use mathlib.Core.Bool.{_||_};
 ghost use Prim.Native.Nat.{ℕ, _+_, _≤_, _<_};
-ghost use lib.Dec.{eqb};
+ghost use lib.Dec.{eqb, ltb};
 ghost use lib.ListN.{length, replicate};
 ghost use Rattle.graph.specs.Sets.{elem, gather};
 ghost use Rattle.graph.specs.Links.{rowsIn, linkedIn};
@@ -27,14 +27,21 @@ ghost use Rattle.match_rows.specs.Rows.{children, passedOn, lowered, low
 
 // ---- one row
 
-// Is `row` among the rows of a column? By halving.
-pub fn holds(starts: &[u32], rows: &[u32], row: usize, column: usize) -> bool
+// The first place of a column whose row is not below `row`; the end of the column where there is none. Those before `from` are known to
+// be below: one comparison where it is `from`, else by halving.
+pub fn place_from(starts: &[u32], rows: &[u32], row: usize, column: usize, from: usize) -> usize
     requires { ⌜ ColumnRises (now starts) (now rows) column ⌝ }
-    ensures { λ r. ⌜ r ≡ elem row (rowsIn (now (starts .entry)) (now (rows .entry)) column) ⌝ }
+    requires { ⌜ (at (now starts) column ≤ from) × (from ≤ at (now starts) (column + 1)) × ((p : ℕ) → at (now starts) column ≤ p → p < from → at (now rows) p < row) ⌝ }
+    ensures { λ r. ⌜ r ≡ first (λ p. ltb (at (now (rows .entry)) p) row) (at (now (starts .entry)) column) (at (now (starts .entry)) (column + 1)) ⌝ }
 {
-    let end = wide(starts[column + 1]);
-    let mut lo = wide(starts[column]);
-    let mut hi = end;
+    let mut hi = wide(starts[column + 1]);
+    let mut lo = from;
+    if lo < hi {
+        if row <= wide(rows[lo]) {
+            return lo;
+        }
+        lo += 1;
+    }
     while lo < hi {
         let mid = lo + (hi - lo) / 2;
         if wide(rows[mid]) < row {
@@ -43,8 +50,17 @@ pub fn holds(starts: &[u32], rows: &[u32], row: usize, column: usize) -> bool
             hi = mid;
         }
     }
-    if lo < end {
-        return wide(rows[lo]) == row;
+    lo
+}
+
+// Is `row` among the rows of a column?
+pub fn holds(starts: &[u32], rows: &[u32], row: usize, column: usize) -> bool
+    requires { ⌜ ColumnRises (now starts) (now rows) column ⌝ }
+    ensures { λ r. ⌜ r ≡ elem row (rowsIn (now (starts .entry)) (now (rows .entry)) column) ⌝ }
+{
+    let place = place_from(starts, rows, row, column, wide(starts[column]));
+    if place < wide(starts[column + 1]) {
+        return wide(rows[place]) == row;
     }
     false
 }
@@ -167,6 +183,36 @@ pub fn first_unlinked(
     unlinked_with(starts, rows, order, l_starts, l_rows, &mut inverse)
 }
 
+// The first place of column c, behind its first, whose row column k does not list; the end of column c where there is none. Both
+// ascend: a walk of the two side by side. A row that is not the next of column k is sought behind it.
+pub fn unpassed_in(l_starts: &[u32], l_rows: &[u32], c: usize, k: usize) -> usize
+    requires { ⌜ ColumnRises (now «l_starts») (now «l_rows») c × ColumnRises (now «l_starts») (now «l_rows») k × (at (now «l_starts») c < at (now «l_starts») (c + 1)) ⌝ }
+    ensures { λ r. ⌜ r ≡ first (λ u. elem (at (now («l_rows» .entry)) u) (rowsIn (now («l_starts» .entry)) (now («l_rows» .entry)) k)) (at (now («l_starts» .entry)) c + 1) (at (now («l_starts» .entry)) (c + 1)) ⌝ }
+{
+    let end = wide(l_starts[c + 1]);
+    let last = wide(l_starts[k + 1]);
+    let mut u = wide(l_starts[c]) + 1;
+    let mut place = wide(l_starts[k]);
+    while u < end {
+        if last <= place {
+            return u;
+        }
+        let row = wide(l_rows[u]);
+        if wide(l_rows[place]) != row {
+            place = place_from(l_starts, l_rows, row, k, place);
+            if last <= place {
+                return u;
+            }
+            if row < wide(l_rows[place]) {
+                return u;
+            }
+        }
+        place += 1;
+        u += 1;
+    }
+    u
+}
+
 // The lowest of n columns that lacks a row of a child; n where there is none. The first row of a column is its parent: the others,
 // which are greater, are the parent's as well.
 pub fn first_unpassed(l_starts: &[u32], l_rows: &[u32], n: usize) -> usize
@@ -178,12 +224,13 @@ pub fn first_unpassed(l_starts: &[u32], l_rows: &[u32], n: usize) -> usize
     while c < n {
         let from = wide(l_starts[c]);
         let end = wide(l_starts[c + 1]);
-        let mut u = from;
-        while u < end {
-            if from < u {
-                least = lower(l_starts, l_rows, wide(l_rows[u]), wide(l_rows[from]), least);
+        if from < end {
+            let parent = wide(l_rows[from]);
+            if parent < least {
+                if unpassed_in(l_starts, l_rows, c, parent) < end {
+                    least = parent;
+                }
             }
-            u += 1;
         }
         c += 1;
     }

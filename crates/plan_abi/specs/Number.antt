@@ -1,15 +1,11 @@
 -- What the exported plan answers: the number of an outcome of `plan::plan` and what it carries. Assumes nothing.
 use Prim.Native.Nat.{ℕ}
-use mathlib.Core.List.{List, [], _∷_, _++_}
+use mathlib.Core.List.{List}
 use mathlib.Core.Path.{_≡_}
-use lib.ListN.{take}
 use Rattle.refusal.specs.Refusal as refusal
+use Rattle.report.specs.Report.{carried}
 use Rattle.plan_core.specs.Plan.{Night, Places, Plans, early, told}
 use Rattle.plan_core.specs.declared.Planned.{Planned}
-
--- the indices that an answer carries, in three places, with zeros after them
-abbrev pub carried : refusal.Told → List ℕ
-carried (refusal.tells n is xs) = take 3 (is ++ 0 ∷ 0 ∷ 0 ∷ [])
 
 -- the call on night a in the places b: the number, the three places and the lent places afterwards are those of an outcome with which
 -- `plan::plan` keeps its promise

@@ -1,12 +1,13 @@
 // The plan of a night for callers in C and Rust. A slice is a pointer and a length, and the answer is document 01's number, 0 where
 // the call is accepted.
 use plan::Planned;
-ghost use mathlib.Core.List.{[], _∷_};
+use report::carry;
 ghost use mathlib.Core.Path.{_≡_};
 ghost use Rattle.refusal.specs.Refusal as refusal;
+ghost use Rattle.report.specs.Report.{carried};
 ghost use Rattle.plan_core.specs.Plan.{night, places};
 ghost use Rattle.plan_core.specs.Plan as plan;
-ghost use Rattle.plan_abi.specs.Number.{carried, Exports};
+ghost use Rattle.plan_abi.specs.Number.{Exports};
 
 // The plan: `plan::plan`. Accepted, `told` has L's blocks, L's numbers and the products; refused, the place, or the buffer and its
 // need, and zeros after.
@@ -71,11 +72,4 @@ fn tell(p: Planned, told: &mut [u64; 3]) -> u32
         Planned::Late { place } => carry(told, 9, place as u64, 0, 0),
         Planned::Short { which, need } => carry(told, 11, which as u64, need as u64, 0),
     }
-}
-
-fn carry(told: &mut [u64; 3], number: u32, first: u64, second: u64, third: u64) -> u32
-    ensures { λ r. ⌜ (r ≡ number) × (now (told .exit) ≡ first ∷ second ∷ third ∷ []) ⌝ }
-{
-    *told = [first, second, third];
-    number
 }

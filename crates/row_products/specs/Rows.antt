@@ -8,8 +8,8 @@ use lib.ListN.{length}
 use Rattle.graph.specs.Sets.{elem}
 use Rattle.graph.specs.Count.{triple}
 use Rattle.tables.specs.Verdict.{at}
-use Rattle.machine.specs.Machine.{State, Column, columnAt, scaled, products}
-use Rattle.block_product.specs.Working.{slot, Apart, Shows}
+use Rattle.machine.specs.Machine.{State, Column, columnAt, products}
+use Rattle.block_product.specs.Working.{slot, Apart, Shows, scaledByD}
 
 -- ---- what is needed: every block that is read or written lies in its list
 
@@ -24,21 +24,20 @@ pub record RowsFit (sizes places rows offsets : List ℕ) (j k values room c : �
 -- ---- what is promised
 
 module _ (dim place : ℕ → ℕ) (j k : ℕ) where
-  -- what is lent of column k: the bodies of the rows at their offsets, the unit factor, d, and Q(j)
-  pub record LentRows (rows offsets : List ℕ) (values unit d qj : List Float) (col : Column) : Type 0 where
+  -- what is lent of column k: the bodies of the rows at their offsets, the unit factor, and Q(j) d
+  pub record LentRows (rows offsets : List ℕ) (values unit qj : List Float) (col : Column) : Type 0 where
     pub bodies : (t : ℕ) → t < length rows → slot (at offsets t) (dim (at rows t) * dim k) values ≡ col .body (at rows t)
     pub by-unit : unit ≡ col .unit
-    pub by-d : d ≡ col .d
-    pub by-q : qj ≡ scaled dim col j k
+    pub by-q : qj ≡ scaledByD dim col j k
 
   -- where the working column and the count showed a state, they show the one after the block products (i, j, k) of the rows `did`, in their order
-  abbrev pub RowSteps : (rows offsets : List ℕ) → (values unit d qj c : List Float) → ℕ → (did : List ℕ) → List Float → ℕ → Type 0
-  RowSteps rows offsets values unit d qj c count did c′ count′ =
+  abbrev pub RowSteps : (rows offsets : List ℕ) → (values unit qj c : List Float) → ℕ → (did : List ℕ) → List Float → ℕ → Type 0
+  RowSteps rows offsets values unit qj c count did c′ count′ =
       (on : List ℕ) → ((i : ℕ) → T (elem i rows) → T (elem i on)) → Apart dim place on j
-      → (s : State) → LentRows rows offsets values unit d qj (columnAt s k) → Shows dim place on j c count s
+      → (s : State) → LentRows rows offsets values unit qj (columnAt s k) → Shows dim place on j c count s
       → Shows dim place on j c′ count′ (products dim (map (triple j k) did) s)
 
-  pub record RowProducts (rows offsets : List ℕ) (values unit d qj c : List Float) (count : ℕ) (c′ : List Float) (count′ : ℕ) : Type 0 where
+  pub record RowProducts (rows offsets : List ℕ) (values unit qj c : List Float) (count : ℕ) (c′ : List Float) (count′ : ℕ) : Type 0 where
     -- as many greater as there are rows
     pub counts : count′ ≡ count + length rows
-    pub steps : RowSteps rows offsets values unit d qj c count rows c′ count′
+    pub steps : RowSteps rows offsets values unit qj c count rows c′ count′

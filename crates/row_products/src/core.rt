@@ -7,7 +7,7 @@ ghost use lib.ListN.{length};
 ghost use Rattle.tables.specs.Verdict.{at};
 ghost use Rattle.row_products.specs.Rows.{RowsFit, RowProducts};
 
-// For each row i of `rows`, in their order; row i of column k, L(i, k), stands in `values` at its offset.
+// For each row i of `rows`, in their order; row i of column k, L(i, k), stands in `values` at its offset, and qj is Q(j) d.
 pub fn apply_rows(
     sizes: &[u32],
     places: &[u32],
@@ -17,7 +17,6 @@ pub fn apply_rows(
     k: usize,
     values: &[f64],
     unit: &[f64],
-    d: &[f64],
     qj: &[f64],
     qi: &mut [f64],
     c: &mut [f64],
@@ -25,8 +24,8 @@ pub fn apply_rows(
 ) -> u64
     requires { ⌜ RowsFit (now sizes) (now places) (now rows) (now offsets) j k (length (now values)) (length (now qi)) (length (now c)) ⌝ }
     requires { ⌜ (j < length (now sizes)) × (k < length (now sizes)) × (0 < at (now sizes) k) × (count + length (now rows) < 2 ^ 64) ⌝ }
-    requires { ⌜ (length (now unit) ≡ at (now sizes) k * at (now sizes) k) × (length (now d) ≡ at (now sizes) k) × (length (now qj) ≡ at (now sizes) j * at (now sizes) k) ⌝ }
-    ensures { λ r. ⌜ RowProducts (at (now (sizes .entry))) (at (now (places .entry))) j k (now (rows .entry)) (now (offsets .entry)) (now (values .entry)) (now (unit .entry)) (now (d .entry)) (now (qj .entry)) (now (c .entry)) count (now (c .exit)) r ⌝ }
+    requires { ⌜ (length (now unit) ≡ at (now sizes) k * at (now sizes) k) × (length (now qj) ≡ at (now sizes) j * at (now sizes) k) ⌝ }
+    ensures { λ r. ⌜ RowProducts (at (now (sizes .entry))) (at (now (places .entry))) j k (now (rows .entry)) (now (offsets .entry)) (now (values .entry)) (now (unit .entry)) (now (qj .entry)) (now (c .entry)) count (now (c .exit)) r ⌝ }
 {
     let wk = sizes[k] as usize;
     let mut n = count;
@@ -43,7 +42,6 @@ pub fn apply_rows(
             k,
             &values[o..end],
             unit,
-            d,
             qj,
             &mut qi[..room],
             c,

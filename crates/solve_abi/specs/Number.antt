@@ -1,21 +1,18 @@
 -- What the exported solve and marks answer: the number of an outcome of `solve::solve_inplace` and of `marks::marks`, and what it carries.
 -- Assumes nothing.
 use Prim.Native.Nat.{ℕ}
-use mathlib.Core.List.{List, [], _∷_, _++_}
+use mathlib.Core.List.{List}
 use mathlib.Core.Path.{_≡_}
 use lib.Ieee.{Float}
-use lib.ListN.{length, take}
+use lib.ListN.{length}
 use Rattle.refusal.specs.Refusal as refusal
+use Rattle.report.specs.Report.{carried}
 use Rattle.solve.specs.Solve.{Call, Solves}
 use Rattle.solve.specs.Solve as solve
 use Rattle.solve.specs.declared.Solved.{Solved}
 use Rattle.marks.specs.Marks.{Marks, marksVerdict}
 use Rattle.marks.specs.Marks as marks
 use Rattle.marks.specs.declared.Marked.{Marked}
-
--- the indices that an answer carries, in three places, with zeros after them
-abbrev pub carried : refusal.Told → List ℕ
-carried (refusal.tells n is xs) = take 3 (is ++ 0 ∷ 0 ∷ 0 ∷ [])
 
 -- the solve a: the number, the three places and the lent places afterwards are those of an outcome with which `solve::solve_inplace`
 -- keeps its promise

@@ -1,14 +1,15 @@
 // The solve and the marks of a night for callers in C and Rust. A slice is a pointer and a length, and the answer is document 01's number,
 // 0 where the call is accepted.
 use marks::Marked;
+use report::carry;
 use solve::Solved;
-ghost use mathlib.Core.List.{[], _∷_};
 ghost use mathlib.Core.Path.{_≡_};
 ghost use Rattle.refusal.specs.Refusal as refusal;
+ghost use Rattle.report.specs.Report.{carried};
 ghost use Rattle.solve.specs.Solve.{call};
 ghost use Rattle.solve.specs.Solve as solve;
 ghost use Rattle.marks.specs.Marks as marks;
-ghost use Rattle.solve_abi.specs.Number.{carried, ExportsSolve, ExportsMarks};
+ghost use Rattle.solve_abi.specs.Number.{ExportsSolve, ExportsMarks};
 
 // The solve: `solve::solve_inplace`, which names each slice. Accepted, `told` has zeros; refused, the place, and 2 where it is in the
 // factor's starts or rows, 1 where it is in its parents, or the buffer and its need, or of a wrong column the table, the column and what is
@@ -117,11 +118,4 @@ fn tell_marked(m: Marked, told: &mut [u64; 3]) -> u32
         Marked::Short { which, need } => carry(told, 11, which as u64, need as u64, 0),
         Marked::Shape { place } => carry(told, 12, place as u64, 0, 0),
     }
-}
-
-fn carry(told: &mut [u64; 3], number: u32, first: u64, second: u64, third: u64) -> u32
-    ensures { λ r. ⌜ (r ≡ number) × (now (told .exit) ≡ first ∷ second ∷ third ∷ []) ⌝ }
-{
-    *told = [first, second, third];
-    number
 }

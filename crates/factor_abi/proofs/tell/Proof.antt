@@ -5,9 +5,10 @@ use mathlib.Core.Path.{_≡_, sym, ap, _∙_}
 use lib.Ieee.{Float}
 use borrow.Author.Needs.{needs}
 use Rattle.refusal.specs.Refusal.{number}
+use Rattle.report.specs.Report.{carried}
 use Rattle.factor_core.specs.Factorize as core
 use Rattle.factor_core.specs.declared.Factorized.{Factorized}
-use Rattle.factor_abi.specs.Number.{carried, carriedFloat}
+use Rattle.factor_abi.specs.Number.{carriedFloat}
 use Rattle.factor_abi.proofs.tell.Statement.{statement}
 use Rattle.factor_abi.proofs.tell.Tie as tie
 

@@ -4,9 +4,9 @@ use mathlib.Core.List.{List}
 use mathlib.Core.Path.{_≡_, sym, ap, _∙_}
 use borrow.Author.Needs.{needs}
 use Rattle.refusal.specs.Refusal.{number}
+use Rattle.report.specs.Report.{carried}
 use Rattle.solve.specs.Solve as solve
 use Rattle.solve.specs.declared.Solved.{Solved}
-use Rattle.solve_abi.specs.Number.{carried}
 use Rattle.solve_abi.proofs.tell_solved.Statement.{statement}
 use Rattle.solve_abi.proofs.tell_solved.Tie as tie
 

@@ -11,10 +11,10 @@ use Rattle.block_product.proofs.core.block_product.Tie as tie
 
 returns : tie.Need-returns
 returns c =
-    let start = c .before .before .before .before .before .before .before .before .before .before .before .before .before .before .before .before .before .before .before in
+    let start = c .before .before .before .before .before .before .before .before .before .before .before .before .before .before .before .before .before .before in
     let x = start .args in
-    product-step (at (now (x .sizes))) (x .i) (x .j) (x .k) (x .place) (now (x .li)) (now (x .unit)) (now (x .d)) (now (x .qj)) (now (x .c)) _ (x .count) (start .pre .1 .1 .2)
-    (rw (c .before .before .sub-mat-diag-mat-t-core .ensures, c .before .before .before .before .before .before .before .multiply .ensures, add-sub-cancel-left))
+    product-step (at (now (x .sizes))) (x .i) (x .j) (x .k) (x .place) (now (x .li)) (now (x .unit)) (now (x .qj)) (now (x .c)) _ (x .count) (start .pre .1 .1 .2)
+    (rw (c .before .before .sub-mat-mat-t-core .ensures, c .before .before .before .before .before .before .before .multiply .ensures, add-sub-cancel-left))
 
 pub block-product-spec : {M : Type 1} → statement M
 block-product-spec =
@@ -22,13 +22,13 @@ block-product-spec =
     (tie.spec
     (λ c. search needs)
     (λ c. search needs)
-    (λ c. omega (arith, c .shared-slice-known6 .given (c .before .before .before .before .before .before .before .before .args .i)))
+    (λ c. omega (arith, c .shared-slice-known5 .given (c .before .before .before .before .before .before .before .args .i)))
     (λ c. search needs)
     (λ c. search needs)
-    (λ c. omega (arith, c .shared-slice-known7 .given (c .before .before .before .before .before .before .before .before .before .args .j)))
+    (λ c. omega (arith, c .shared-slice-known6 .given (c .before .before .before .before .before .before .before .before .args .j)))
     (λ c. search needs)
     (λ c. search needs)
-    (λ c. search needs)
+    (λ c. omega (arith, c .shared-slice-known7 .given (c .before .before .before .before .before .before .before .before .before .args .k)))
     (λ c κs. search needs)
     (λ c. search needs)
     (λ c. search needs)

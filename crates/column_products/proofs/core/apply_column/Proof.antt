@@ -33,14 +33,14 @@ sums a b = omega arith
 earlier : (c : tie.Start) → c .args .from ≤ c .args .end
 earlier c = omega (arith, c .pre .1 .1)
 
-slice-aggregate-multiply : tie.Need-slice-aggregate-multiply
-slice-aggregate-multiply c =
-    let x = c .before .before .before .before .before .before .before .before .before .before .before .before .before .before .before .before .before .before .before .before .args in
+slice-aggregate-multiply-diag : tie.Need-slice-aggregate-multiply-diag
+slice-aggregate-multiply-diag c =
+    let x = c .before .before .before .before .before .before .before .before .before .before .before .before .before .before .before .before .before .before .before .before .before .args in
     sym (length-take-le (at (now (x .sizes)) (x .j) * at (now (x .sizes)) (x .k)) (now (x .qj)) (omega arith))
 
-multiply-requires : tie.Need-multiply-requires
-multiply-requires c κs =
-    let s = c .before .before .before .before .before .before .before .before .before .before .before .before .before .before .before .before .before .before .before .before in
+multiply-diag-requires : tie.Need-multiply-diag-requires
+multiply-diag-requires c κs =
+    let s = c .before .before .before .before .before .before .before .before .before .before .before .before .before .before .before .before .before .before .before .before .before in
     let x = s .args in
     let h = at (now (x .sizes)) (x .j) in
     let w = at (now (x .sizes)) (x .k) in
@@ -48,6 +48,8 @@ multiply-requires c κs =
     let u = at (now (x .unit-starts)) (x .k) in
     let e : length (slot o (o + h * w - o) (now (x .values))) ≡ o + h * w - o = mid-len o (o + h * w) (now (x .values)) (first-fits s) in
     let f : length (slot u (u + w * w - u) (now (x .diag))) ≡ u + w * w - u = mid-len u (u + w * w) (now (x .diag)) (omega arith) in
+    let v = at (now (x .d-starts)) (x .k) in
+    let i : length (slot v (v + w - v) (now (x .d))) ≡ v + w - v = mid-len v (v + w) (now (x .d)) (omega arith) in
     let g : length (take (h * w) (now (x .qj))) ≡ h * w = length-take-le (h * w) (now (x .qj)) (omega arith) in
     omega arith
 
@@ -57,7 +59,7 @@ slice-reshare-prefix-apply-rows c =
     let x = s .args in
     let h = at (now (x .sizes)) (x .j) in
     let w = at (now (x .sizes)) (x .k) in
-    let m = c .before .before .before .before .before .before .multiply in
+    let m = c .before .before .before .before .before .multiply-diag in
     let q = m .last .1 .1 .1 .1 .1 .0 in
     let e : length q ≡ h * w = m .kept .1 .1 .1 .1 .1 .0 ∙ length-take-le (h * w) (now (x .qj)) (s .pre .1 .0 .scaled) in
     let f : length (q ++ drop (h * w) (now (x .qj))) ≡ length (now (x .qj)) = length-front (now (x .qj)) q (h * w) (m .kept .1 .1 .1 .1 .1 .0) in
@@ -69,7 +71,7 @@ slice-aggregate-apply-rows c =
     let x = s .args in
     let h = at (now (x .sizes)) (x .j) in
     let w = at (now (x .sizes)) (x .k) in
-    let m = c .before .before .before .before .before .before .before .multiply in
+    let m = c .before .before .before .before .before .before .multiply-diag in
     let q = m .last .1 .1 .1 .1 .1 .0 in
     let e : length q ≡ h * w = m .kept .1 .1 .1 .1 .1 .0 ∙ length-take-le (h * w) (now (x .qj)) (s .pre .1 .0 .scaled) in
     sym (ap length (take-at q (drop (h * w) (now (x .qj))) (h * w) e) ∙ e)
@@ -80,11 +82,10 @@ apply-rows-requires c κs =
     let x = s .args in
     let h = at (now (x .sizes)) (x .j) in
     let w = at (now (x .sizes)) (x .k) in
-    let m = c .before .before .before .before .before .before .before .before .before .multiply in
+    let m = c .before .before .before .before .before .before .before .before .multiply-diag in
     let q = m .last .1 .1 .1 .1 .1 .0 in
     let e : length q ≡ h * w = m .kept .1 .1 .1 .1 .1 .0 ∙ length-take-le (h * w) (now (x .qj)) (s .pre .1 .0 .scaled) in
     let u = at (now (x .unit-starts)) (x .k) in
-    let o = at (now (x .d-starts)) (x .k) in
     let f = s .pre .1 .0 in
     let g : length (slot (x .from) (x .end - x .from) (now (x .l-rows))) ≡ x .end - x .from = mid-len (x .from) (x .end) (now (x .l-rows)) (s .pre .0 .in-tables .0) in (
       rows-fit (tables s) (x .j) (x .k) (x .from) (x .end) (omega (arith, s .pre .1 .1)) _ _ _ (s .pre .0),
@@ -92,7 +93,6 @@ apply-rows-requires c κs =
         (f .known .0, f .known .1, f .known .4, omega (arith, s .pre .1 .1)),
         (
           mid-len u (u + w * w) (now (x .diag)) (f .unit) ∙ add-sub-cancel-left _ _,
-          mid-len o (o + w) (now (x .d)) (f .of-d) ∙ add-sub-cancel-left _ _,
           ap length (take-at q (drop (h * w) (now (x .qj))) (h * w) e) ∙ e,
         ),
       ),
@@ -101,14 +101,14 @@ apply-rows-requires c κs =
 same-length : tie.Need-same-length
 same-length c =
     let x = c .before .before .before .before .before .before .before .before .before .before .before .before .before .before .before .before .before .before .before .before .before .before .before .before .before .before .before .before .before .before .before .before .before .before .before .args in
-    let m = c .before .before .before .before .before .before .before .before .before .before .before .before .before .before .multiply in
+    let m = c .before .before .before .before .before .before .before .before .before .before .before .before .before .multiply-diag in
     length-front (now (x .qj)) (m .last .1 .1 .1 .1 .1 .0) (at (now (x .sizes)) (x .j) * at (now (x .sizes)) (x .k)) (m .kept .1 .1 .1 .1 .1 .0)
 
 same-length-2 : tie.Need-same-length-2
-same-length-2 c = c .before .before .before .before .apply-rows .kept .1 .1 .1 .1 .1 .1 .1 .1 .1 .1 .0
+same-length-2 c = c .before .before .before .before .apply-rows .kept .1 .1 .1 .1 .1 .1 .1 .1 .1 .0
 
 same-length-3 : tie.Need-same-length-3
-same-length-3 c = c .before .before .before .before .apply-rows .kept .1 .1 .1 .1 .1 .1 .1 .1 .1 .1 .1 .0
+same-length-3 c = c .before .before .before .before .apply-rows .kept .1 .1 .1 .1 .1 .1 .1 .1 .1 .1 .0
 
 returns : tie.Need-returns
 returns c =
@@ -116,7 +116,7 @@ returns c =
     let x = s .args in
     let h = at (now (x .sizes)) (x .j) in
     let w = at (now (x .sizes)) (x .k) in
-    let m = c .before .before .before .before .before .before .before .before .before .before .before .before .before .before .multiply in
+    let m = c .before .before .before .before .before .before .before .before .before .before .before .before .before .multiply-diag in
     let q = m .last .1 .1 .1 .1 .1 .0 in
     let e : length q ≡ h * w = m .kept .1 .1 .1 .1 .1 .0 ∙ length-take-le (h * w) (now (x .qj)) (s .pre .1 .0 .scaled) in
     column-products (tables s) (x .j) (x .k) (x .from) (x .end) (omega (arith, s .pre .1 .1)) _ _ _ (s .pre .0)
@@ -156,25 +156,25 @@ apply-column-spec =
     (λ c. sums _ _)
     (λ c. sums _ _)
     (λ c. c .before .before .before .before .before .before .before .before .before .before .before .before .before .before .before .before .before .before .pre .1 .0 .unit)
+    (λ c. omega arith)
+    (λ c. sums _ _)
+    (λ c. sums _ _)
+    (λ c. c .before .before .before .before .before .before .before .before .before .before .before .before .before .before .before .before .before .before .before .pre .1 .0 .of-d)
     (λ c. search needs)
-    slice-aggregate-multiply
-    multiply-requires
-    (λ c. omega arith)
-    (λ c. earlier (c .before .before .before .before .before .before .before .before .before .before .before .before .before .before .before .before .before .before .before .before .before .before .before))
-    (λ c. earlier (c .before .before .before .before .before .before .before .before .before .before .before .before .before .before .before .before .before .before .before .before .before .before .before))
-    (λ c. c .before .before .before .before .before .before .before .before .before .before .before .before .before .before .before .before .before .before .before .before .before .before .before .pre .0 .in-tables .0)
+    slice-aggregate-multiply-diag
+    multiply-diag-requires
     (λ c. omega arith)
     (λ c. earlier (c .before .before .before .before .before .before .before .before .before .before .before .before .before .before .before .before .before .before .before .before .before .before .before .before))
     (λ c. earlier (c .before .before .before .before .before .before .before .before .before .before .before .before .before .before .before .before .before .before .before .before .before .before .before .before))
+    (λ c. c .before .before .before .before .before .before .before .before .before .before .before .before .before .before .before .before .before .before .before .before .before .before .before .before .pre .0 .in-tables .0)
     (λ c. omega arith)
-    (λ c. omega (arith, c .before .before .before .before .before .before .before .before .before .before .before .before .before .before .before .before .before .before .before .before .before .before .before .before .before .pre .1 .0, c .before .before .before .before .before .before .before .before .before .before .before .before .before .before .before .before .before .before .before .before .before .before .before .before .before .good))
-    (λ c. sums _ _)
-    (λ c. sums _ _)
-    (λ c. c .before .before .before .before .before .before .before .before .before .before .before .before .before .before .before .before .before .before .before .before .before .before .before .before .before .pre .1 .0 .unit)
+    (λ c. earlier (c .before .before .before .before .before .before .before .before .before .before .before .before .before .before .before .before .before .before .before .before .before .before .before .before .before))
+    (λ c. earlier (c .before .before .before .before .before .before .before .before .before .before .before .before .before .before .before .before .before .before .before .before .before .before .before .before .before))
+    (λ c. omega arith)
     (λ c. omega (arith, c .before .before .before .before .before .before .before .before .before .before .before .before .before .before .before .before .before .before .before .before .before .before .before .before .before .before .pre .1 .0, c .before .before .before .before .before .before .before .before .before .before .before .before .before .before .before .before .before .before .before .before .before .before .before .before .before .before .good))
     (λ c. sums _ _)
     (λ c. sums _ _)
-    (λ c. c .before .before .before .before .before .before .before .before .before .before .before .before .before .before .before .before .before .before .before .before .before .before .before .before .before .before .pre .1 .0 .of-d)
+    (λ c. c .before .before .before .before .before .before .before .before .before .before .before .before .before .before .before .before .before .before .before .before .before .before .before .before .before .before .pre .1 .0 .unit)
     slice-reshare-prefix-apply-rows
     slice-aggregate-apply-rows
     apply-rows-requires

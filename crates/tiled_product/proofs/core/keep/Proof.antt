@@ -1,0 +1,23 @@
+-- `tiled_product::core::keep` meets its contract. Assumes nothing.
+use borrow.Author.Needs.{needs}
+use Rattle.tiled_product.proofs.core.keep.Statement.{statement}
+use Rattle.tiled_product.proofs.core.keep.Tie as tie
+
+store-requires : tie.Need-store-requires
+store-requires c κs = search needs
+
+store-requires-2 : tie.Need-store-requires-2
+store-requires-2 c κs = search needs
+
+store-requires-3 : tie.Need-store-requires-3
+store-requires-3 c κs = search needs
+
+same-length : tie.Need-same-length
+same-length c = search needs
+
+returns : tie.Need-returns
+returns c = rw (c .before .before .store3 .ensures, c .before .before .before .before .before .before .store2 .ensures, c .before .before .before .before .before .before .before .before .before .before .store .ensures)
+
+pub keep-spec : {M : Type 1} → statement M
+keep-spec =
+    tie.close (tie.spec store-requires store-requires-2 store-requires-3 same-length returns)
