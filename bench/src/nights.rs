@@ -19,10 +19,15 @@ impl Draw {
         let z = (z ^ (z >> 27)).wrapping_mul(0x94D049BB133111EB);
         ((z ^ (z >> 31)) >> 11) as usize % n
     }
+
+    /// Between 0 and 1.
+    pub fn fraction(&mut self) -> f64 {
+        self.below(1 << 40) as f64 / (1u64 << 40) as f64
+    }
 }
 
 /// The blocks of a part of a grid, halves first, then the line between them.
-pub fn dissect(x: std::ops::Range<usize>, y: std::ops::Range<usize>, width: usize, order: &mut Vec<usize>) {
+fn dissect(x: std::ops::Range<usize>, y: std::ops::Range<usize>, width: usize, order: &mut Vec<usize>) {
     let (w, h) = (x.len(), y.len());
     if w * h <= 4 {
         order.extend(y.flat_map(|j| x.clone().map(move |i| i + j * width)));
@@ -37,6 +42,28 @@ pub fn dissect(x: std::ops::Range<usize>, y: std::ops::Range<usize>, width: usiz
         dissect(x.clone(), middle + 1..y.end, width, order);
         dissect(x, middle..middle + 1, width, order);
     }
+}
+
+/// Each block is linked to the next one across and down.
+pub fn grid(width: usize, height: usize) -> Night {
+    let n = width * height;
+    let across = (0..n).filter(|k| k % width != 0).map(|k| (k - 1, k));
+    let links = across.chain((width..n).map(|k| (k - width, k))).collect();
+    let mut perm = vec![];
+    dissect(0..width, 0..height, width, &mut perm);
+    Night { name: "grid, dissected", n, links, perm }
+}
+
+/// Each block is linked to the next one.
+pub fn chain(n: usize) -> Night {
+    Night { name: "chain, in order", n, links: (1..n).map(|k| (k - 1, k)).collect(), perm: (0..n).collect() }
+}
+
+/// A chain, and each block is linked to the last.
+pub fn arrow(n: usize) -> Night {
+    let mut arrow = Night { name: "arrow, tip last", ..chain(n) };
+    arrow.links.extend((0..n - 1).map(|k| (k, n - 1)));
+    arrow
 }
 
 /// The tables of A, every diagonal block stored.

@@ -1,36 +1,24 @@
 //! The systems that are timed, the proved factorization of them, and calls timed beside each other.
-use super::nights::{Draw, Night, dissect, tables, time};
-use sophus_solver::matrix::{
-    Grid, PartitionSet, PartitionSpec,
-    block_sparse::{BlockSparseSymmetricMatrix, BlockSparseTripletMatrix, BlockTriplet, BlockTripletRegion},
+use sophus_solver::{
+    ldlt::block_sparse_ldlt,
+    matrix::block_sparse::{BlockSparseMatrix, BlockSparseSymmetricMatrix},
 };
+use std::hint::black_box;
+
+use crate::calls::{FactorLent, PlanLent, factorize, plan};
+use crate::factors::{self, bodies, filled};
+use crate::nights::{Draw, Night, chain, grid, tables, time};
+use crate::plans::Tables;
 
 /// The best of so many rounds is told, with the first, which sets the calls of a round, where one call makes one; a round of one of
-/// them runs for at least so many nanoseconds, and no further round begins after so many.
+/// them runs for at least so many nanoseconds, and what has run for so many in all takes part in no further round.
 pub const ROUNDS: usize = 7;
 const AT_LEAST: f64 = 3e6;
-const AT_MOST: f64 = 5e9;
+const AT_MOST: f64 = 1e9;
 /// Blocks across and down of the grids; as many blocks in the other patterns.
-pub const SHAPES: [(usize, usize); 5] = [(16, 8), (32, 16), (32, 32), (64, 32), (64, 64)];
+pub const SHAPES: [(usize, usize); 3] = [(16, 8), (32, 32), (64, 64)];
 pub const DIMS: [usize; 3] = [3, 6, 16];
 pub const TOLERANCE: f64 = 1e-12;
-
-#[link(name = "factor_abi", kind = "static")]
-unsafe extern "C" {
-    fn beyqaloosh_factorize(
-        dims: *const u32, dims_len: usize, starts: *const u32, starts_len: usize, rows: *const u32, rows_len: usize,
-        values: *const f64, values_len: usize, perm: *const u32, perm_len: usize, late: *const u32, late_len: usize, tol: f64,
-        order: *mut u32, order_len: usize, parents: *mut u32, parents_len: usize,
-        l_starts: *mut u32, l_starts_len: usize, l_rows: *mut u32, l_rows_len: usize, l_offsets: *mut u32, l_offsets_len: usize,
-        l_values: *mut f64, l_values_len: usize, diag: *mut f64, diag_len: usize, d: *mut f64, d_len: usize,
-        column: *mut f64, column_len: usize,
-        inverse: *mut u32, inverse_len: usize, sizes: *mut u32, sizes_len: usize, count: *mut u32, count_len: usize,
-        heads: *mut u32, heads_len: usize, into: *mut u32, into_len: usize, stamps: *mut u32, stamps_len: usize,
-        table: *mut u32, table_len: usize, upper: *mut u32, upper_len: usize, bodies: *mut u32, bodies_len: usize,
-        unit_starts: *mut u32, unit_starts_len: usize, d_starts: *mut u32, d_starts_len: usize,
-        places: *mut u32, places_len: usize, told: *mut [u64; 3], value: *mut [f64; 1],
-    ) -> u32;
-}
 
 /// Points in the unit square, those of one half first, then those of the other, then those of the first that have a link across.
 fn dissect_points(points: &[(f64, f64)], links: &[Vec<usize>], mut part: Vec<usize>, order: &mut Vec<usize>) {
@@ -53,10 +41,9 @@ fn dissect_points(points: &[(f64, f64)], links: &[Vec<usize>], mut part: Vec<usi
 }
 
 /// Points drawn in the unit square, linked where they are near: six links a point, but for the border.
-fn geometric(n: usize) -> Night {
+pub fn geometric(n: usize) -> Night {
     let mut draw = Draw(n as u64);
-    let mut number = || draw.below(1 << 40) as f64 / (1u64 << 40) as f64;
-    let points: Vec<(f64, f64)> = (0..n).map(|_| (number(), number())).collect();
+    let points: Vec<(f64, f64)> = (0..n).map(|_| (draw.fraction(), draw.fraction())).collect();
     let near = 6.0 / (std::f64::consts::PI * n as f64);
     let apart = |a: usize, b: usize| (points[a].0 - points[b].0).powi(2) + (points[a].1 - points[b].1).powi(2);
     let links: Vec<(usize, usize)> =
@@ -74,146 +61,99 @@ fn geometric(n: usize) -> Night {
 /// The patterns of so many blocks across and down.
 pub fn nights(width: usize, height: usize) -> Vec<Night> {
     let n = width * height;
-    let across = (0..n).filter(|k| k % width != 0).map(|k| (k - 1, k));
-    let grid = across.chain((width..n).map(|k| (k - width, k))).collect();
-    let mut dissected = vec![];
-    dissect(0..width, 0..height, width, &mut dissected);
-    let chain = (1..n).map(|k| (k - 1, k)).collect();
-    vec![
-        Night { name: "grid, dissected", n, links: grid, perm: dissected },
-        geometric(n),
-        Night { name: "chain, in order", n, links: chain, perm: (0..n).collect() },
-    ]
+    vec![grid(width, height), geometric(n), chain(n)]
 }
 
-/// The values of A, body after body: drawn between -1/2 and 1/2, with a diagonal that outweighs its row.
-pub fn values(n: usize, dim: usize, starts: &[u32], rows: &[u32]) -> Vec<f64> {
-    let mut draw = Draw(dim as u64);
-    let mut links = vec![0; n];
-    for j in 0..n {
-        for p in starts[j] as usize..starts[j + 1] as usize {
-            links[j] += 1;
-            links[rows[p] as usize] += 1;
-        }
-    }
-    let mut values = vec![];
-    for j in 0..n {
-        for p in starts[j] as usize..starts[j + 1] as usize {
-            let first = values.len();
-            values.extend((0..dim * dim).map(|_| draw.below(1 << 40) as f64 / (1u64 << 40) as f64 - 0.5));
-            if rows[p] as usize == j {
-                for c in 0..dim {
-                    for r in 0..c {
-                        values[first + r + c * dim] = values[first + c + r * dim];
-                    }
-                    values[first + c + c * dim] += (links[j] * dim) as f64;
-                }
-            }
-        }
-    }
-    values
-}
-
-/// The same as the source's matrix: one partition.
-pub fn matrix(n: usize, dim: usize, starts: &[u32], rows: &[u32], values: &[f64]) -> BlockSparseSymmetricMatrix {
-    let mut region = BlockTripletRegion::default();
-    for j in 0..n {
-        for p in starts[j] as usize..starts[j + 1] as usize {
-            region.triplets.push(BlockTriplet { block_idx: [rows[p] as usize, j], storage_base: p * dim * dim });
-        }
-    }
-    region.flattened_block_storage = values.to_vec();
-    let spec = PartitionSpec { block_count: n, block_dim: dim, eliminate_last: false };
-    let partitions = PartitionSet::new(vec![spec]);
-    let lower = BlockSparseTripletMatrix { partitions, triplet_grid: Grid::new([1, 1], region) }.to_compressed();
-    BlockSparseSymmetricMatrix { lower }
-}
-
-/// What is handed to the proved factorization.
-pub struct System {
-    pub dims: Vec<u32>,
-    pub starts: Vec<u32>,
-    pub rows: Vec<u32>,
-    pub values: Vec<f64>,
-    pub perm: Vec<u32>,
-    pub late: Vec<u32>,
-}
-
-/// The buffers lent to it, and what it tells.
-pub struct Lent {
-    pub plan: [Vec<u32>; 5],
-    pub numbers: [Vec<f64>; 4],
-    pub scratch: [Vec<u32>; 12],
-    pub told: [u64; 3],
-    pub value: [f64; 1],
-}
-
-impl Lent {
-    pub fn new(system: &System, dim: usize) -> Self {
-        let (n, m) = (system.dims.len(), system.rows.len());
-        let of = |count: usize| vec![0u32; count];
-        let floats = |count: usize| vec![0.0f64; count];
-        Self {
-            plan: [of(n), of(n), of(n + 1), of(0), of(0)],
-            numbers: [floats(0), floats(n * dim * dim), floats(n * dim), floats(n * dim * dim)],
-            scratch: [of(n), of(n), of(n), of(n + 1), of(n + 1), of(n), of(m), of(m), of(m + 1), of(n + 1), of(n + 1), of(n)],
-            told: [0; 3],
-            value: [0.0],
-        }
-    }
-}
-
-/// The proved factorization.
-pub fn ours(system: &System, lent: &mut Lent) -> u32 {
-    let System { dims, starts, rows, values, perm, late } = system;
-    let [order, parents, l_starts, l_rows, l_offsets] = &mut lent.plan;
-    let [l_values, diag, d, column] = &mut lent.numbers;
-    let [inverse, sizes, count, heads, into, stamps, table, upper, bodies, unit_starts, d_starts, places] = &mut lent.scratch;
-    unsafe {
-        beyqaloosh_factorize(
-            dims.as_ptr(), dims.len(), starts.as_ptr(), starts.len(), rows.as_ptr(), rows.len(),
-            values.as_ptr(), values.len(), perm.as_ptr(), perm.len(), late.as_ptr(), late.len(), TOLERANCE,
-            order.as_mut_ptr(), order.len(), parents.as_mut_ptr(), parents.len(),
-            l_starts.as_mut_ptr(), l_starts.len(), l_rows.as_mut_ptr(), l_rows.len(), l_offsets.as_mut_ptr(), l_offsets.len(),
-            l_values.as_mut_ptr(), l_values.len(), diag.as_mut_ptr(), diag.len(), d.as_mut_ptr(), d.len(),
-            column.as_mut_ptr(), column.len(),
-            inverse.as_mut_ptr(), inverse.len(), sizes.as_mut_ptr(), sizes.len(), count.as_mut_ptr(), count.len(),
-            heads.as_mut_ptr(), heads.len(), into.as_mut_ptr(), into.len(), stamps.as_mut_ptr(), stamps.len(),
-            table.as_mut_ptr(), table.len(), upper.as_mut_ptr(), upper.len(), bodies.as_mut_ptr(), bodies.len(),
-            unit_starts.as_mut_ptr(), unit_starts.len(), d_starts.as_mut_ptr(), d_starts.len(),
-            places.as_mut_ptr(), places.len(), &mut lent.told, &mut lent.value,
-        )
-    }
-}
-
-/// A pattern with blocks of one dimension, and its factor in lists that are exactly as long as it.
-pub fn factored(night: &Night, dim: usize) -> (System, Lent) {
+/// A pattern with blocks of these dimensions: values between -1/2 and 1/2, with a diagonal that outweighs its row.
+pub fn system(night: &Night, dims: Vec<u32>) -> factors::Night {
     let n = night.n;
     let (starts, rows) = tables(night);
-    let values = values(n, dim, &starts, &rows);
     let perm = night.perm.iter().map(|&k| k as u32).collect();
-    let system = System { dims: vec![dim as u32; n], starts, rows, values, perm, late: vec![0; n] };
-    let mut lent = Lent::new(&system, dim);
+    let tables = Tables { dims, starts, rows, perm, late: vec![0; n] };
+    let mut weight = vec![0; n];
+    let stored = |j: usize| tables.starts[j] as usize..tables.starts[j + 1] as usize;
+    for j in 0..n {
+        for p in stored(j) {
+            let i = tables.rows[p] as usize;
+            weight[j] += tables.dims[i];
+            weight[i] += tables.dims[j];
+        }
+    }
+    let at = bodies(&tables);
+    let mut draw = Draw(tables.dims[0] as u64);
+    let mut values: Vec<f64> = (0..at[tables.rows.len()]).map(|_| draw.fraction() - 0.5).collect();
+    for j in 0..n {
+        // the diagonal block is the first of its column
+        let (body, dim) = (&mut values[at[stored(j).start]..], tables.dims[j] as usize);
+        for c in 0..dim {
+            for r in 0..c {
+                body[r + c * dim] = body[c + r * dim];
+            }
+            body[c + c * dim] += weight[j] as f64;
+        }
+    }
+    factors::Night { tables, values, tolerance: TOLERANCE }
+}
 
-    // the needs of L, as refusal 11 tells them
-    assert_eq!((ours(&system, &mut lent), lent.told[0]), (11, 4));
-    let stored = lent.told[1] as usize - 1;
-    lent.plan[3].resize(stored, 0);
-    lent.plan[4].resize(stored + 1, 0);
-    lent.numbers[0].resize(stored * dim * dim, 0.0);
-    assert_eq!(ours(&system, &mut lent), 0, "{}, {n}: refused", night.name);
-    (system, lent)
+/// The same as the source's matrix.
+pub fn matrix(system: &factors::Night) -> BlockSparseSymmetricMatrix {
+    BlockSparseSymmetricMatrix { lower: filled(system) }
+}
+
+/// What the functions of the source's plan give: order, rows of L by column, and the scalars' order.
+pub type Planned = (Vec<usize>, Vec<Vec<usize>>, Vec<usize>);
+
+/// The source's plan: the late move, the permuted matrix, the tree and the rows of L, the scalars' order.
+pub fn source_plan(a: &BlockSparseMatrix, perm: &[usize]) -> Planned {
+    let (order, inverse) = block_sparse_ldlt::order(a, perm.to_vec());
+    let (flat_sub, a_perm) = block_sparse_ldlt::permute(a, &order, &inverse);
+    let (l_col_rows, l_region_nf) = block_sparse_ldlt::symbolic(&a_perm, &flat_sub);
+    black_box(&l_region_nf);
+    let scalars = block_sparse_ldlt::scalars(&a.subdivision, &order, &flat_sub);
+    (order, l_col_rows, scalars)
+}
+
+/// The proved factorization of a system that it accepts.
+pub fn ours(system: &factors::Night, lent: &mut FactorLent) -> [u64; 3] {
+    let (mut told, mut value) = ([0; 3], [0.0]);
+    let number = factorize(&system.tables, &system.values, system.tolerance, lent, &mut told, &mut value);
+    assert_eq!(number, 0, "refused: {told:?}");
+    told
+}
+
+/// The proved factor in buffers that have exactly their needs, and the counts of L's blocks, its numbers and the products.
+pub fn factored(system: &factors::Night) -> (FactorLent, [u64; 3]) {
+    let t = &system.tables;
+    let mut told = [0; 3];
+    let mut number = plan(t, &mut PlanLent::needed(t, 0), &mut told);
+    if number == 11 {
+        // L's row table, whose need only the plan shows
+        number = plan(t, &mut PlanLent::needed(t, told[1]), &mut told);
+    }
+    assert_eq!(number, 0, "refused: {told:?}");
+    let mut lent = FactorLent::needed(t, told[0], told[1]);
+    let told = ours(system, &mut lent);
+    (lent, told)
 }
 
 /// The best time of one call of each, in nanoseconds; their rounds take turns.
 pub fn beside<const N: usize>(mut each: [&mut dyn FnMut(); N]) -> [f64; N] {
-    let mut best = [f64::MAX; N];
-    let mut calls = [1; N];
-    let mut spent = 0.0;
+    let best = turns(N, AT_MOST, |k| each[k]());
+    std::array::from_fn(|k| best[k])
+}
+
+/// The same of so many calls by number. One that has run for so many nanoseconds in all takes part in no further round.
+pub fn turns(count: usize, at_most: f64, mut call: impl FnMut(usize)) -> Vec<f64> {
+    let mut best = vec![f64::MAX; count];
+    let mut calls = vec![1; count];
+    let mut spent = vec![0.0; count];
     for round in 0..=ROUNDS {
-        for k in 0..N {
-            let taken = time(calls[k], &mut each[k]);
-            spent += taken * calls[k] as f64;
+        for k in 0..count {
+            if spent[k] > at_most && best[k] < f64::MAX {
+                continue;
+            }
+            let taken = time(calls[k], || call(k));
+            spent[k] += taken * calls[k] as f64;
             // the first round says how many calls make one, and counts where one call is enough
             if round == 0 {
                 calls[k] = (AT_LEAST / taken).ceil().max(1.0) as usize;
@@ -221,9 +161,6 @@ pub fn beside<const N: usize>(mut each: [&mut dyn FnMut(); N]) -> [f64; N] {
             if round > 0 || calls[k] == 1 {
                 best[k] = best[k].min(taken);
             }
-        }
-        if spent > AT_MOST {
-            break;
         }
     }
     best

@@ -44,11 +44,11 @@ pub const LENT: usize = 15;
 const OVER: [i64; BUFFERS] = [3, 1, 2, 4, 1, 2, 3, 5, 1, 2, 3, 1, 2, 4, 3, 1, 2, 3, 1, 4, 2];
 const EXACT: [i64; BUFFERS] = [0; BUFFERS];
 
-type Links = Vec<(usize, usize)>;
+pub type Links = Vec<(usize, usize)>;
 
 /// What is added to the entries on the diagonal of a diagonal block.
 #[derive(Clone, Copy, PartialEq)]
-enum Weight {
+pub enum Weight {
     // nothing
     None,
     // enough for positive pivots
@@ -57,13 +57,17 @@ enum Weight {
     Signed,
 }
 
-struct Maker {
-    patterns: Patterns,
+pub struct Maker {
+    pub patterns: Patterns,
     all: Vec<Case>,
 }
 
 impl Maker {
-    fn below(&mut self, n: usize) -> usize {
+    pub fn new(seed: u64) -> Self {
+        Self { patterns: Patterns::new(seed), all: vec![] }
+    }
+
+    pub fn below(&mut self, n: usize) -> usize {
         self.patterns.draw.below(n as u64) as usize
     }
 
@@ -87,13 +91,13 @@ impl Maker {
     }
 
     /// The tables of links in a drawn order with drawn flags.
-    fn drawn(&mut self, n: usize, links: &Links, diagonal: Diagonal) -> Tables {
+    pub fn drawn(&mut self, n: usize, links: &Links, diagonal: Diagonal) -> Tables {
         let base = self.patterns.tables(n, links, diagonal);
         Tables { dims: self.dims(n), perm: self.patterns.shuffled(n), late: self.patterns.flags(n), ..base }
     }
 
     /// Numbers of this kind in every stored body; the diagonal blocks with their weight.
-    fn values(&mut self, t: &Tables, kind: Kind, weight: Weight) -> Vec<f64> {
+    pub fn values(&mut self, t: &Tables, kind: Kind, weight: Weight) -> Vec<f64> {
         let bodies = bodies(t);
         let mut values = self.patterns.draw.values(kind, bodies[t.rows.len()]);
         let heavy = 4.0 * t.dims.iter().sum::<u32>() as f64;
@@ -109,17 +113,17 @@ impl Maker {
         values
     }
 
-    fn tolerance(&mut self) -> f64 {
+    pub fn tolerance(&mut self) -> f64 {
         [1e-12, 1e-12, 0.0, -0.0, 1e-9, 1e-3][self.below(6)]
     }
 
-    fn night(&mut self, tables: Tables, kind: Kind, weight: Weight) -> Night {
+    pub fn night(&mut self, tables: Tables, kind: Kind, weight: Weight) -> Night {
         let values = self.values(&tables, kind, weight);
         let tolerance = self.tolerance();
         Night { tables, values, tolerance }
     }
 
-    fn weight(&mut self) -> Weight {
+    pub fn weight(&mut self) -> Weight {
         [Weight::None, Weight::Heavy, Weight::Signed][self.below(3)]
     }
 
@@ -639,7 +643,7 @@ impl Maker {
 }
 
 pub fn cases() -> Vec<Case> {
-    let mut maker = Maker { patterns: Patterns::new(0x666163746F7273), all: vec![] };
+    let mut maker = Maker::new(0x666163746F7273);
     maker.random();
     maker.dense();
     maker.shapes();

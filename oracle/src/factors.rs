@@ -4,7 +4,10 @@ use std::panic::{AssertUnwindSafe, catch_unwind, set_hook, take_hook};
 use nalgebra::{DMatrixView, DMatrixViewMut, DVectorViewMut};
 use sophus_solver::{
     BlockSparseLdltError, Definiteness, LdltDecompositionError, fallback_threshold, fell_back,
-    ldlt::{block_sparse_ldlt, ldlt_decompose_inplace},
+    ldlt::{
+        block_sparse_ldlt::{self, BlockSparseLdltFactor},
+        ldlt_decompose_inplace,
+    },
     matrix::{
         PartitionBlockIndex,
         block_sparse::{BlockSparseMatrix, BlockSparseSymmetricMatrix},
@@ -112,9 +115,16 @@ pub fn needs(t: &Tables, l_blocks: usize, l_numbers: usize) -> [usize; BUFFERS] 
 }
 
 /// The refusal 1 to 10, if there is one.
-fn refused_before(night: &Night) -> Option<(u32, u32, u32)> {
+pub fn refused_before(night: &Night) -> Option<(u32, u32, u32)> {
     let tolerant = night.tolerance.is_finite() && night.tolerance >= 0.0;
     refused(&night.tables, Some(night.values.len() as u32)).or((!tolerant).then_some((10, 0, 0)))
+}
+
+/// The buffer that 11 tells of, and whether only the plan shows its need.
+pub fn short(lent: &[usize; BUFFERS], needs: &[usize; BUFFERS]) -> Option<(usize, bool)> {
+    let short = |b: &usize| lent[*b] < needs[*b];
+    let known = (0..BUFFERS).filter(|b| !SHOWN.contains(b)).find(short);
+    known.map(|b| (b, false)).or(SHOWN.into_iter().find(short).map(|b| (b, true)))
 }
 
 pub fn run(case: &Case, fallbacks: &mut Fallbacks) -> Answer {
@@ -141,10 +151,8 @@ pub fn run(case: &Case, fallbacks: &mut Fallbacks) -> Answer {
         (answer.number, answer.first, answer.second) = told;
         return answer;
     }
-    let short = |b: &usize| (lent[*b] as usize) < needs[*b];
-    let known = (0..BUFFERS).filter(|b| !SHOWN.contains(b)).find(short);
-    if let Some(b) = known.or(SHOWN.into_iter().find(short)) {
-        answer.state = known.is_none() as u32;
+    if let Some((b, shown)) = short(&lent.map(|l| l as usize), &needs) {
+        answer.state = shown as u32;
         (answer.number, answer.first, answer.second) = (11, b as u32, needs[b] as u32);
         return answer;
     }
@@ -203,12 +211,25 @@ fn worked(night: &Night, plan: &Plan, fallbacks: &mut Fallbacks) -> Worked {
 
 fn numeric(night: &Night, plan: &Plan, fallbacks: &mut Fallbacks) -> Worked {
     let a_lower = BlockSparseSymmetricMatrix { lower: filled(night) };
+    source_factor(&a_lower, night, plan, true, fallbacks).0
+}
+
+/// What the numbers of the matrix come to, with the source's factor where it is accepted. The source's steps are gone through once more
+/// where the source refuses or has fallen back, and with `again` in any case.
+pub fn source_factor(
+    a_lower: &BlockSparseSymmetricMatrix,
+    night: &Night,
+    plan: &Plan,
+    again: bool,
+    fallbacks: &mut Fallbacks,
+) -> (Worked, Option<BlockSparseLdltFactor>) {
     let perm: Vec<usize> = night.tables.perm.iter().map(|&k| k as usize).collect();
-    let met = met(&a_lower.lower, perm.clone(), night.tolerance);
     nalgebra::products();
-    let told = catch_unwind(AssertUnwindSafe(|| block_sparse_ldlt::factorize(&a_lower, perm, night.tolerance)));
+    let told = catch_unwind(AssertUnwindSafe(|| block_sparse_ldlt::factorize(a_lower, perm.clone(), night.tolerance)));
     let products = nalgebra::products();
-    match met {
+    let clean = matches!(&told, Ok(Ok(factor)) if !fell_back(block_sparse_ldlt::diagonal(factor)));
+    let met = if clean && !again { None } else { met(&a_lower.lower, perm, night.tolerance) };
+    let worked = match met {
         None => {
             let Ok(Ok(factor)) = told else { panic!("the source refuses what its steps accept") };
             assert!(!fell_back(block_sparse_ldlt::diagonal(&factor)));
@@ -225,7 +246,7 @@ fn numeric(night: &Night, plan: &Plan, fallbacks: &mut Fallbacks) -> Worked {
                 worked.d.extend(diagonal.d.get_block(idx).as_slice());
             }
             assert_eq!(worked.l_values.len(), plan.numbers);
-            Worked::Accepted(worked)
+            return (Worked::Accepted(worked), Some(factor));
         }
         Some(Worked::NotFinite { block, place, pivot }) => {
             let Ok(Err(BlockSparseLdltError::BlockDiagLdltError { source, idx })) = told else {
@@ -246,7 +267,8 @@ fn numeric(night: &Night, plan: &Plan, fallbacks: &mut Fallbacks) -> Worked {
             }
             poor
         }
-    }
+    };
+    (worked, None)
 }
 
 /// The first diagonal block that the source's steps come to and that 13 or 14 meets: `decompose` keeps its record to itself, so

@@ -271,7 +271,7 @@ impl Maker {
 
     /// 4,096 blocks and 65,536 stored blocks: a band of 15 in the order after the late move, with links somewhat further; the
     /// old numbers are drawn.
-    fn limits(&mut self) {
+    pub fn limits(&mut self) -> Tables {
         let n = 4096;
         let late: Vec<u32> = (0..n / 32).flat_map(|_| [(self.below(10) == 0) as u32; 32]).collect();
         let dims: Vec<u32> = (0..n / 32).flat_map(|k| [if k == 0 { 16 } else { 1 + self.below(16) as u32 }; 32]).collect();
@@ -308,8 +308,7 @@ impl Maker {
         let rows = columns.concat();
         assert_eq!(rows.len(), 65536);
         // `drawn` has the late blocks among the others
-        let tables = Tables { dims, starts, rows, perm: drawn, late };
-        self.plan(LIMITS, tables, OVER);
+        Tables { dims, starts, rows, perm: drawn, late }
     }
 
     /// 4,097 blocks without a stored one.
@@ -586,6 +585,7 @@ pub fn cases() -> Vec<Case> {
     maker.lent();
     maker.system();
     maker.all.extend(walks);
-    maker.limits();
+    let limits = maker.limits();
+    maker.plan(LIMITS, limits, OVER);
     maker.all
 }

@@ -81,19 +81,8 @@ pub fn refused(t: &Tables, values: Option<u32>) -> Option<Refusal> {
     if let Some(k) = t.dims.iter().position(|&d| !(1..=16).contains(&d)) {
         return told(2, k);
     }
-    // a table of another length is refused at its first missing or its first superfluous entry
-    for k in 0..=n {
-        let before = if k == 0 { Some(0) } else { t.starts.get(k - 1).copied() };
-        let good = match (before, t.starts.get(k)) {
-            (Some(b), Some(&s)) => (if k == 0 { s == 0 } else { s >= b }) && (k < n || s as usize == m),
-            _ => false,
-        };
-        if !good {
-            return told(3, k);
-        }
-    }
-    if t.starts.len() > n + 1 {
-        return told(3, n + 1);
+    if let Some(k) = bad_start(&t.starts, n, m) {
+        return told(3, k);
     }
     if m > 65536 {
         return told(4, 0);
@@ -131,8 +120,24 @@ pub fn refused(t: &Tables, values: Option<u32>) -> Option<Refusal> {
     None
 }
 
+/// The first wrong entry of the column starts of n blocks and m stored ones. A table of another length is refused at its first missing or
+/// its first superfluous entry.
+pub fn bad_start(starts: &[u32], n: usize, m: usize) -> Option<usize> {
+    for k in 0..=n {
+        let before = if k == 0 { Some(0) } else { starts.get(k - 1).copied() };
+        let good = match (before, starts.get(k)) {
+            (Some(b), Some(&s)) => (if k == 0 { s == 0 } else { s >= b }) && (k < n || s as usize == m),
+            _ => false,
+        };
+        if !good {
+            return Some(k);
+        }
+    }
+    (starts.len() > n + 1).then_some(n + 1)
+}
+
 /// The needs of the lent buffers; that of L's row table is only known after the plan.
-fn needs(t: &Tables, l_rows: usize) -> [usize; BUFFERS] {
+pub fn needs(t: &Tables, l_rows: usize) -> [usize; BUFFERS] {
     let (n, m) = (t.dims.len(), t.rows.len());
     [n, n, n + 1, l_rows, n, n, n, n + 1, n + 1, n, m, m]
 }
@@ -228,9 +233,13 @@ fn walked(t: &Tables) -> Walks {
 
 /// The source's plan of tables that are right.
 pub fn planned(t: &Tables) -> Plan {
-    let a_lower = matrix(t);
-    let (order, inverse) = block_sparse_ldlt::order(&a_lower, t.perm.iter().map(|&k| k as usize).collect());
-    let (flat_sub, a_lower_perm) = block_sparse_ldlt::permute(&a_lower, &order, &inverse);
+    plan_of(&matrix(t), t)
+}
+
+/// The same with the matrix made already.
+pub fn plan_of(a_lower: &BlockSparseMatrix, t: &Tables) -> Plan {
+    let (order, inverse) = block_sparse_ldlt::order(a_lower, t.perm.iter().map(|&k| k as usize).collect());
+    let (flat_sub, a_lower_perm) = block_sparse_ldlt::permute(a_lower, &order, &inverse);
     let (l_col_rows, l_region_nf) = block_sparse_ldlt::symbolic(&a_lower_perm, &flat_sub);
     let scalars = block_sparse_ldlt::scalars(&a_lower.subdivision, &order, &flat_sub);
     assert_eq!(scalars.len(), t.dims.iter().sum::<u32>() as usize);

@@ -1,4 +1,7 @@
 //! Times the source's factorization and the proved one beside each other, on the same matrices and orders, in one run.
+use bench::calls::FactorLent;
+use bench::nights::{Night, time};
+use bench::systems::{DIMS, ROUNDS, SHAPES, beside, factored, matrix, nights, ours, system};
 use nalgebra::{DMatrixView, DMatrixViewMut};
 use sophus_solver::{
     fell_back,
@@ -7,15 +10,8 @@ use sophus_solver::{
 };
 use std::hint::black_box;
 
-#[path = "../nights.rs"]
-mod nights;
-#[path = "../systems.rs"]
-mod systems;
-use nights::{Night, time};
-use systems::{DIMS, Lent, ROUNDS, SHAPES, TOLERANCE, beside, factored, matrix, ours};
-
 /// The same rows of L and the same bits of L, of the unit factors and of d.
-fn assert_same(name: &str, factor: &BlockSparseLdltFactor, lent: &Lent, dim: usize) {
+fn assert_same(name: &str, factor: &BlockSparseLdltFactor, lent: &FactorLent, dim: usize) {
     let n = lent.plan[0].len();
     let diagonal = block_sparse_ldlt::diagonal(factor);
     assert!(!fell_back(diagonal));
@@ -57,14 +53,15 @@ fn gemm(dim: usize) -> f64 {
 
 fn compare(night: &Night, dim: usize, gemm: f64) {
     let n = night.n;
-    let (system, mut lent) = factored(night, dim);
+    let system = system(night, vec![dim as u32; n]);
+    let (mut lent, told) = factored(&system);
     let stored = lent.plan[3].len();
     let columns = lent.plan[2].windows(2).map(|w| (w[1] - w[0]) as usize);
     let products: usize = columns.map(|c| c * (c + 1) / 2).sum();
-    assert_eq!(lent.told, [stored as u64, (stored * dim * dim) as u64, products as u64], "{}, {n}: other counts", night.name);
+    assert_eq!(told, [stored as u64, (stored * dim * dim) as u64, products as u64], "{}, {n}: other counts", night.name);
 
-    let a = matrix(n, dim, &system.starts, &system.rows, &system.values);
-    let source = || block_sparse_ldlt::factorize(black_box(&a), night.perm.clone(), TOLERANCE);
+    let a = matrix(&system);
+    let source = || block_sparse_ldlt::factorize(black_box(&a), night.perm.clone(), system.tolerance);
     let Ok(factor) = source() else { panic!("{}, {n}: the source refuses", night.name) };
     assert_same(night.name, &factor, &lent, dim);
     drop(factor);
@@ -73,7 +70,9 @@ fn compare(night: &Night, dim: usize, gemm: f64) {
         &mut || {
             black_box(source().is_ok());
         },
-        &mut || assert_eq!(ours(black_box(&system), black_box(&mut lent)), 0),
+        &mut || {
+            black_box(ours(black_box(&system), black_box(&mut lent)));
+        },
     ]);
     let [rust, proved] = times.map(|t| t / 1000.0);
     println!(
@@ -89,7 +88,7 @@ fn main() {
     println!("|---|--:|--:|--:|--:|--:|--:|--:|--:|");
     let gemms = DIMS.map(gemm);
     for (width, height) in SHAPES {
-        for night in systems::nights(width, height) {
+        for night in nights(width, height) {
             for (dim, gemm) in DIMS.into_iter().zip(gemms) {
                 compare(&night, dim, gemm);
             }

@@ -1,4 +1,6 @@
-//! Times the source's text and the proved library beside each other, on the same numbers, in one run.
+//! Times the source's text and the proved library beside each other, on the same numbers, in one run. The compiler can look
+//! into the source's calls, so what these take and write goes through `black_box`; into an exported call it cannot.
+use beyqaloosh::abi;
 use nalgebra::{DMatrixView, DMatrixViewMut, DVectorView, DVectorViewMut};
 use sophus_solver::kernel::sub_mat_diag_mat_t_inplace;
 use sophus_solver::ldlt::{ldlt_decompose_inplace, ldlt_right_matsolve_inplace, ldlt_solve_inplace};
@@ -11,21 +13,6 @@ const SIZES: [usize; 8] = [1, 2, 3, 4, 6, 8, 12, 16];
 const ROUNDS: usize = 9;
 const CALLS: usize = 20_000;
 const TOLERANCE: f64 = 1e-12;
-
-#[link(name = "c_abi", kind = "static")]
-unsafe extern "C" {
-    fn beyqaloosh_sub_mat_diag_mat_t_inplace(
-        m: usize, n: usize, k: usize,
-        y: *mut f64, y_len: usize, a: *const f64, a_len: usize, d: *const f64, d_len: usize, b: *const f64, b_len: usize,
-    ) -> u32;
-    fn beyqaloosh_ldlt_decompose_inplace(n: usize, a: *mut f64, a_len: usize, d: *mut f64, d_len: usize, tol: f64) -> u32;
-    fn beyqaloosh_ldlt_right_matsolve_inplace(
-        m: usize, n: usize, l: *const f64, l_len: usize, d: *const f64, d_len: usize, x: *mut f64, x_len: usize,
-    ) -> u32;
-    fn beyqaloosh_ldlt_solve_inplace(
-        n: usize, l: *const f64, l_len: usize, d: *const f64, d_len: usize, x: *mut f64, x_len: usize,
-    ) -> u32;
-}
 
 /// Nanoseconds of one call.
 fn time(mut call: impl FnMut()) -> f64 {
@@ -59,9 +46,7 @@ fn product(n: usize, a: &[f64], v: &[f64]) -> (f64, f64) {
     });
     let o = time(|| {
         ours.copy_from_slice(a);
-        let (y, p) = (black_box(&mut ours).as_mut_ptr(), black_box(a).as_ptr());
-        let told = unsafe { beyqaloosh_sub_mat_diag_mat_t_inplace(n, n, n, y, n * n, p, n * n, v.as_ptr(), n, p, n * n) };
-        assert_eq!(told, 0);
+        assert_eq!(abi::beyqaloosh_sub_mat_diag_mat_t_inplace(n, n, n, &mut ours, a, v, a), 0);
     });
     same("product", n, &rust, &ours);
     (r, o)
@@ -78,9 +63,7 @@ fn decompose(n: usize, a: &[f64]) -> ((f64, f64), Vec<f64>, Vec<f64>) {
     });
     let o = time(|| {
         ours.0.copy_from_slice(a);
-        let (l, d) = (black_box(&mut ours.0).as_mut_ptr(), ours.1.as_mut_ptr());
-        let told = unsafe { beyqaloosh_ldlt_decompose_inplace(n, l, n * n, d, n, TOLERANCE) };
-        assert_eq!(told, 0);
+        assert_eq!(abi::beyqaloosh_ldlt_decompose_inplace(n, &mut ours.0, &mut ours.1, TOLERANCE), 0);
     });
     same("factor", n, &rust.0, &ours.0);
     same("d", n, &rust.1, &ours.1);
@@ -96,9 +79,7 @@ fn right_solve(n: usize, a: &[f64], l: &[f64], d: &[f64]) -> (f64, f64) {
     });
     let o = time(|| {
         ours.copy_from_slice(a);
-        let (x, p) = (black_box(&mut ours).as_mut_ptr(), black_box(l).as_ptr());
-        let told = unsafe { beyqaloosh_ldlt_right_matsolve_inplace(n, n, p, n * n, d.as_ptr(), n, x, n * n) };
-        assert_eq!(told, 0);
+        assert_eq!(abi::beyqaloosh_ldlt_right_matsolve_inplace(n, n, l, d, &mut ours), 0);
     });
     same("right solve", n, &rust, &ours);
     (r, o)
@@ -113,9 +94,7 @@ fn solve(n: usize, v: &[f64], l: &[f64], d: &[f64]) -> (f64, f64) {
     });
     let o = time(|| {
         ours.copy_from_slice(v);
-        let (x, p) = (black_box(&mut ours).as_mut_ptr(), black_box(l).as_ptr());
-        let told = unsafe { beyqaloosh_ldlt_solve_inplace(n, p, n * n, d.as_ptr(), n, x, n) };
-        assert_eq!(told, 0);
+        assert_eq!(abi::beyqaloosh_ldlt_solve_inplace(n, l, d, &mut ours), 0);
     });
     same("solve", n, &rust, &ours);
     (r, o)

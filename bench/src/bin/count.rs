@@ -1,0 +1,51 @@
+//! One call of the source's text or of the proved library on a dissected grid, made in a function of its own, `counted`, so that
+//! callgrind can count what it executes: `count rust|ours plan|factor|solve WIDTH HEIGHT DIM`.
+use bench::calls::{PlanLent, SolveLent, plan, solve_inplace};
+use bench::nights::Draw;
+use bench::systems::{factored, matrix, nights, ours, source_plan, system};
+use nalgebra::DVector;
+use sophus_solver::{IsFactor, ldlt::block_sparse_ldlt};
+use std::hint::black_box;
+
+#[unsafe(no_mangle)]
+#[inline(never)]
+pub fn counted(call: &mut dyn FnMut()) {
+    black_box(call)();
+}
+
+fn main() {
+    let words: Vec<String> = std::env::args().skip(1).collect();
+    let [side, part, width, height, dim] = &words[..] else { panic!("count SIDE PART WIDTH HEIGHT DIM") };
+    let night = nights(width.parse().unwrap(), height.parse().unwrap()).swap_remove(0);
+    let system = system(&night, vec![dim.parse().unwrap(); night.n]);
+    let (mut lent, told) = factored(&system);
+    let a = matrix(&system);
+    let source = || block_sparse_ldlt::factorize(&a, night.perm.clone(), system.tolerance).ok().expect("the source refuses");
+    let scalars = lent.numbers[2].len();
+    let mut draw = Draw(night.n as u64);
+    let right: Vec<f64> = (0..scalars).map(|_| draw.fraction() - 0.5).collect();
+    match (side.as_str(), part.as_str()) {
+        ("rust", "plan") => counted(&mut || {
+            black_box(source_plan(&a.lower, &night.perm));
+        }),
+        ("rust", "factor") => counted(&mut || {
+            black_box(source());
+        }),
+        ("rust", "solve") => {
+            let (factor, mut b) = (source(), DVector::from_column_slice(&right));
+            counted(&mut || assert!(factor.solve_inplace(&mut b).is_ok()));
+        }
+        ("ours", "plan") => {
+            let mut lent = PlanLent::needed(&system.tables, told[0]);
+            counted(&mut || assert_eq!(plan(&system.tables, &mut lent, &mut [0; 3]), 0));
+        }
+        ("ours", "factor") => counted(&mut || {
+            ours(&system, &mut lent);
+        }),
+        ("ours", "solve") => {
+            let (mut x, mut scratch) = (right, SolveLent::needed(&system.tables));
+            counted(&mut || assert_eq!(solve_inplace(&system.tables, lent.factor(), &mut x, &mut scratch, &mut [0; 3]), 0));
+        }
+        _ => panic!("count: no such side or part"),
+    }
+}
