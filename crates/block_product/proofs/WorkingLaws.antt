@@ -20,7 +20,7 @@ use Rattle.scalar.specs.Block.{within}
 use Rattle.kernel_product.specs.Product.{subMatDiagMatT}
 use Rattle.tiled_product.specs.Tiled.{subMatMatT}
 use Rattle.tiled_product.proofs.TileLaws.{sub-is-tiled}
-use Rattle.machine.specs.Machine.{Column, columnAt, bodyOr, touch, scaled, reduced, matProduct, product}
+use Rattle.machine.specs.Machine.{Column, columnAt, bodyOr, touch, scaled, reduced, product}
 use Rattle.block_product.specs.Working.{slot, Apart, scaledByD, OneProduct}
 use Rattle.tiled_multiply.proofs.GridLaws.{product-length}
 use Rattle.block_product.proofs.SlotLaws.{slot-length, slot-written, slot-other}
@@ -63,18 +63,18 @@ module _ (dim place : ℕ → ℕ) (on : List ℕ) (j : ℕ) (apart : Apart dim 
 -- ---- one block product
 
 module _ (dim : ℕ → ℕ) (i j k : ℕ) where
-  pub product-step : (here : ℕ) (li unit qj c c′ : List Float) (count : ℕ) → here + dim i * dim j ≤ length c
-      → c′ ≡ within here (dim i * dim j) (λ y. subMatMatT (dim i) (dim j) (dim k) y (matProduct (dim i) (dim k) (dim k) li unit) qj) c
-      → OneProduct dim i j k here li unit qj c count c′ (count + 1)
+  pub product-step : (here : ℕ) (qi qj c c′ : List Float) (count : ℕ) → here + dim i * dim j ≤ length c
+      → c′ ≡ within here (dim i * dim j) (λ y. subMatMatT (dim i) (dim j) (dim k) y qi qj) c
+      → OneProduct dim i j k here qi qj c count c′ (count + 1)
   unfolding product
-  product-step here li unit qj c c′ count fits e =
+  product-step here qi qj c c′ count fits e =
       record {
         counts = refl;
         step = λ place on mi pe apart s lent sh.
             let long = slot-length c (place i) (dim i * dim j) (rw pe fits) in
             record {
               blocks = λ r mr.
-                  rw (e, ← pe, lent .by-body, lent .by-unit, lent .by-q, ← kernel (columnAt s k) (slot (place i) (dim i * dim j) c) long)
+                  rw (e, ← pe, lent .by-row, lent .by-q, ← kernel (columnAt s k) (slot (place i) (dim i * dim j) c) long)
                   (shows-within dim place on j apart i (reduced dim (columnAt s k) i j k) c (s .work) mi (rw pe fits) (sub-length _ _ _ _ _ _ _ ∙ long) (sh .blocks) r mr);
               counted = ap (λ (n : ℕ). n + 1) (sh .counted) ∙ sym (length-append (s .done) (triple j k i ∷ []));
             };

@@ -2,7 +2,8 @@
 --
 -- A flat list has slots: `slot off size x` is what stands there. It shows a state of the machine where each slot in use is the body that
 -- the state names: one equation a block, and nothing is said of the places between. How the slots are laid out is not said either, only
--- that no two of them overlap. The state is no argument of the code, so a promise binds it: it holds for every state that the list shows.
+-- that each ends before that of any later row begins. The state is no argument of the code, so a promise binds it: it holds for every
+-- state that the list shows.
 use Prim.Native.Nat.{ℕ, _+_, _*_, _≤_, _<_}
 use mathlib.Core.List.{List}
 use mathlib.Core.Path.{_≡_}
@@ -21,7 +22,7 @@ module _ {A : Type 0} where
 -- ---- the column being worked: j its number, `on` the rows in use, `place i` where block (i, j) begins
 
 module _ (dim place : ℕ → ℕ) (on : List ℕ) (j : ℕ) where
-  -- a block ends before the next row's begins
+  -- a block ends before those of the later rows begin
   abbrev pub Apart : Type 0
   Apart = (p r : ℕ) → T (elem p on) → T (elem r on) → p < r → place p + dim p * dim j ≤ place r
 
@@ -39,16 +40,15 @@ abbrev pub scaledByD : (dim : ℕ → ℕ) → Column → ℕ → ℕ → List F
 scaledByD dim col j k = timesDiag (dim j) (dim k) (col .d) (scaled dim col j k)
 
 module _ (dim : ℕ → ℕ) (i j k : ℕ) where
-  -- what is lent of column k: L(i, k) and the unit factor as they stand there, and Q(j) d worked out
-  pub record Lent (li unit qj : List Float) (col : Column) : Type 0 where
-    pub by-body : li ≡ col .body i
-    pub by-unit : unit ≡ col .unit
+  -- what is lent of column k: Q(i) and Q(j) d
+  pub record Lent (qi qj : List Float) (col : Column) : Type 0 where
+    pub by-row : qi ≡ scaled dim col i k
     pub by-q : qj ≡ scaledByD dim col j k
 
   -- The column c and the count become c′ and count′; block (i, j) begins at `here`.
-  pub record OneProduct (here : ℕ) (li unit qj c : List Float) (count : ℕ) (c′ : List Float) (count′ : ℕ) : Type 0 where
+  pub record OneProduct (here : ℕ) (qi qj c : List Float) (count : ℕ) (c′ : List Float) (count′ : ℕ) : Type 0 where
     -- one greater
     pub counts : count′ ≡ count + 1
     -- the machine's step: where they showed a state, they show the one after the block product (i, j, k)
     pub step : (place : ℕ → ℕ) (on : List ℕ) → T (elem i on) → place i ≡ here → Apart dim place on j
-        → (s : State) → Lent li unit qj (columnAt s k) → Shows dim place on j c count s → Shows dim place on j c′ count′ (product dim i j k s)
+        → (s : State) → Lent qi qj (columnAt s k) → Shows dim place on j c count s → Shows dim place on j c′ count′ (product dim i j k s)

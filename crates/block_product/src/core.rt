@@ -10,32 +10,28 @@ ghost use Rattle.machine.specs.Machine.{matProduct};
 ghost use Rattle.tiled_product.specs.Tiled.{timesDiag};
 ghost use Rattle.block_product.specs.Working.{OneProduct};
 
-// Block (i, j), which lies in the working column c from `place` on, loses Q(i) d Q(j)ᵀ. li is L(i, k), unit the unit factor of block k,
-// qj is Q(j) d, which serves all rows i, and qi is room for Q(i). The count comes back one greater.
+// Block (i, j), which lies in the working column c from `place` on, loses Q(i) d Q(j)ᵀ. qi is Q(i) and qj is Q(j) d, which serves all
+// rows i. The count comes back one greater.
 pub fn block_product(
     sizes: &[u32],
     i: usize,
     j: usize,
     k: usize,
-    li: &[f64],
-    unit: &[f64],
+    qi: &[f64],
     qj: &[f64],
-    qi: &mut [f64],
     c: &mut [f64],
     place: usize,
     count: u64,
 ) -> u64
-    requires { ⌜ (i < length (now sizes)) × (j < length (now sizes)) × (k < length (now sizes)) × (0 < at (now sizes) k) × (count + 1 < 2 ^ 64) ⌝ }
-    requires { ⌜ (length (now li) ≡ at (now sizes) i * at (now sizes) k) × (length (now unit) ≡ at (now sizes) k * at (now sizes) k) ⌝ }
-    requires { ⌜ (length (now qj) ≡ at (now sizes) j * at (now sizes) k) × (length (now qi) ≡ at (now sizes) i * at (now sizes) k) × (place + at (now sizes) i * at (now sizes) j ≤ length (now c)) ⌝ }
-    ensures { λ r. ⌜ OneProduct (at (now (sizes .entry))) i j k place (now (li .entry)) (now (unit .entry)) (now (qj .entry)) (now (c .entry)) count (now (c .exit)) r ⌝ }
+    requires { ⌜ (i < length (now sizes)) × (j < length (now sizes)) × (k < length (now sizes)) × (count + 1 < 2 ^ 64) ⌝ }
+    requires { ⌜ (length (now qi) ≡ at (now sizes) i * at (now sizes) k) × (length (now qj) ≡ at (now sizes) j * at (now sizes) k) × (place + at (now sizes) i * at (now sizes) j ≤ length (now c)) ⌝ }
+    ensures { λ r. ⌜ OneProduct (at (now (sizes .entry))) i j k place (now (qi .entry)) (now (qj .entry)) (now (c .entry)) count (now (c .exit)) r ⌝ }
 {
     let hi = sizes[i] as usize;
     let hj = sizes[j] as usize;
     let wk = sizes[k] as usize;
-    multiply(hi, wk, wk, li, unit, qi);
     let end = place + hi * hj;
-    sub_mat_mat_t_core(hi, hj, wk, &mut c[place..end], &qi[..], qj);
+    sub_mat_mat_t_core(hi, hj, wk, &mut c[place..end], qi, qj);
     count + 1
 }
 

@@ -38,16 +38,19 @@ module _ (p : Plan) (j k from end : ℕ) (le : from ≤ end) where
         }
 
     -- the rows' products, with Q(j) d made from row j, are the column's
-    pub column-products : (vs diag d qj cl c′ : List Float) (count count′ : ℕ) → from < end → at (p .lRows) from ≡ j
+    pub column-products : (vs diag d cache qj cl c′ : List Float) (count count′ : ℕ) → from < end → at (p .lRows) from ≡ j
         → qj ≡ timesDiag (sizeOf p j) (sizeOf p k) (slot (at (p .dStarts) k) (sizeOf p k) d) (matProduct (sizeOf p j) (sizeOf p k) (sizeOf p k) (slot (at (p .lOffsets) from) (sizeOf p j * sizeOf p k) vs) (slot (at (p .unitStarts) k) (sizeOf p k * sizeOf p k) diag))
-        → RowProducts (sizeOf p) (placeOf p) j k rows offsets vs (slot (at (p .unitStarts) k) (sizeOf p k * sizeOf p k) diag) qj cl count c′ count′
-        → ColumnProducts p j k from end vs diag d cl count c′ count′
-    column-products vs diag d qj cl c′ count count′ lt at-j q r =
+        → RowProducts (sizeOf p) (placeOf p) j k rows offsets vs cache (slot (at (p .unitStarts) k) (sizeOf p k * sizeOf p k) diag) qj cl count c′ count′
+        → ColumnProducts p j k from end vs diag d cache cl count c′ count′
+    column-products vs diag d cache qj cl c′ count count′ lt at-j q r =
         record {
           counts = r .counts ∙ ap (λ (n : ℕ). count + n) rows-length;
-          steps = λ on all apart s holds.
+          steps = λ on all apart s holds kept.
               r .steps on all apart s
               (record {
+                kept = λ t h.
+                    rw (at-slot (p .lRows) from (end - from) t (omega (arith, rows-length)), at-slot (p .lOffsets) from (end - from) t (omega (arith, rows-length)))
+                    (kept (from + t) (omega arith) (omega (arith, rows-length)));
                 bodies = λ t h.
                     rw (at-slot (p .lRows) from (end - from) t (omega (arith, rows-length)), at-slot (p .lOffsets) from (end - from) t (omega (arith, rows-length)))
                     (holds .bodies (from + t) (omega arith) (omega (arith, rows-length)));

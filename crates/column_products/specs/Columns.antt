@@ -8,7 +8,7 @@ use lib.ListN.{length}
 use Rattle.graph.specs.Sets.{elem}
 use Rattle.graph.specs.Count.{triple}
 use Rattle.tables.specs.Verdict.{at}
-use Rattle.machine.specs.Machine.{State, Column, columnAt, products}
+use Rattle.machine.specs.Machine.{State, Column, columnAt, scaled, products}
 use Rattle.block_product.specs.Working.{slot, Apart, Shows}
 
 -- The tables, by new number: the dimensions; where each block of the working column begins; the rows of L, column after column;
@@ -39,6 +39,12 @@ module _ (p : Plan) where
     pub by-unit : slot (at (p .unitStarts) k) (sizeOf k * sizeOf k) diag ≡ col .unit
     pub by-d : slot (at (p .dStarts) k) (sizeOf k) d ≡ col .d
 
+  -- The cache has Q(i) of these rows, as far as it is long enough: at the place that the body has in L's values.
+  abbrev pub Kept : (cache : List Float) (k from end : ℕ) (col : Column) → Type 0
+  Kept cache k from end col =
+      (t : ℕ) → from ≤ t → t < end → at (p .lOffsets) t + sizeOf (at (p .lRows) t) * sizeOf k ≤ length cache
+      → slot (at (p .lOffsets) t) (sizeOf (at (p .lRows) t) * sizeOf k) cache ≡ scaled sizeOf col (at (p .lRows) t) k
+
   -- ---- what is needed: every block that is read or written lies in its list
 
   -- of the rows: L(i, k), Q(i) and block (i, j)
@@ -58,8 +64,8 @@ module _ (p : Plan) where
 
   -- ---- what is promised: row j stands at `from`; the block products (i, j, k) for i = j and the rows after it
 
-  pub record ColumnProducts (j k from end : ℕ) (values diag d c : List Float) (count : ℕ) (c′ : List Float) (count′ : ℕ) : Type 0 where
+  pub record ColumnProducts (j k from end : ℕ) (values diag d cache c : List Float) (count : ℕ) (c′ : List Float) (count′ : ℕ) : Type 0 where
     pub counts : count′ ≡ count + (end - from)
     pub steps : (on : List ℕ) → ((i : ℕ) → T (elem i (slot from (end - from) (p .lRows))) → T (elem i on)) → Apart sizeOf placeOf on j
-        → (s : State) → Holds values diag d k from end (columnAt s k) → Shows sizeOf placeOf on j c count s
+        → (s : State) → Holds values diag d k from end (columnAt s k) → Kept cache k from end (columnAt s k) → Shows sizeOf placeOf on j c count s
         → Shows sizeOf placeOf on j c′ count′ (products sizeOf (map (triple j k) (slot from (end - from) (p .lRows))) s)

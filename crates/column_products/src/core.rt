@@ -7,7 +7,8 @@ ghost use lib.ListN.{length};
 ghost use Rattle.tables.specs.Verdict.{at};
 ghost use Rattle.column_products.specs.Columns.{plan, PlacesFit, FactorsFit, ColumnProducts};
 
-// By column k, whose row j stands at place `from` of the tables, and whose last row before `end`. Q(j) d is worked out once.
+// By column k, whose row j stands at place `from` of the tables, and whose last row before `end`. Q(j) d is worked out once, and
+// each Q(i) that the cache has is taken from it.
 pub fn apply_column(
     sizes: &[u32],
     places: &[u32],
@@ -22,6 +23,7 @@ pub fn apply_column(
     values: &[f64],
     diag: &[f64],
     d: &[f64],
+    cache: &[f64],
     qj: &mut [f64],
     qi: &mut [f64],
     c: &mut [f64],
@@ -30,7 +32,7 @@ pub fn apply_column(
     requires { ⌜ PlacesFit (plan (now sizes) (now places) (now «l_rows») (now «l_offsets») (now «unit_starts») (now «d_starts»)) j k from end (length (now values)) (length (now qi)) (length (now c)) ⌝ }
     requires { ⌜ FactorsFit (plan (now sizes) (now places) (now «l_rows») (now «l_offsets») (now «unit_starts») (now «d_starts»)) j k (length (now diag)) (length (now d)) (length (now qj)) ⌝ }
     requires { ⌜ (from < end) × (at (now «l_rows») from ≡ j) × (count + (end - from) < 2 ^ 64) ⌝ }
-    ensures { λ r. ⌜ ColumnProducts (plan (now (sizes .entry)) (now (places .entry)) (now («l_rows» .entry)) (now («l_offsets» .entry)) (now («unit_starts» .entry)) (now («d_starts» .entry))) j k from end (now (values .entry)) (now (diag .entry)) (now (d .entry)) (now (c .entry)) count (now (c .exit)) r ⌝ }
+    ensures { λ r. ⌜ ColumnProducts (plan (now (sizes .entry)) (now (places .entry)) (now («l_rows» .entry)) (now («l_offsets» .entry)) (now («unit_starts» .entry)) (now («d_starts» .entry))) j k from end (now (values .entry)) (now (diag .entry)) (now (d .entry)) (now (cache .entry)) (now (c .entry)) count (now (c .exit)) r ⌝ }
 {
     let hj = sizes[j] as usize;
     let wk = sizes[k] as usize;
@@ -57,6 +59,7 @@ pub fn apply_column(
         j,
         k,
         values,
+        cache,
         &diag[u..u_end],
         &qj[..room],
         qi,

@@ -38,8 +38,9 @@ use Rattle.block_product.proofs.SlotLaws.{slot-length}
 use Rattle.factor_setup.specs.Exact.{lStarts, lRows, stored, numbers}
 use Rattle.factor_core.specs.declared.Factorized.{Factorized}
 use Rattle.factor_core.specs.declared.Factorized.the-variants as variant
-use Rattle.factor_core.specs.Factorize.{told, Places, whole, answered, cleared, Demand3, Factors, Exact}
+use Rattle.factor_core.specs.Factorize.{told, Places, answered, cleared, Demand3, FactorsBy, Exact}
 use Rattle.factor_core.specs.Written.{Written}
+use Rattle.factor_core.specs.Cache.{cacheNeed, wholeKept, clearedTo, FactorsKept}
 use Rattle.factor_core.proofs.StopLaws.{accepted-run}
 
 -- nothing stands beyond an exact need
@@ -116,10 +117,7 @@ pub record Zeros (b b′ : Places) : Type 0 where
   pub places : b′ .places ≡ replicate (length (b .places)) 0
 
 module _ (a : System) (sound : SystemSound (a .dims) (a .starts) (a .rows) (a .values) (a .perm) (a .late) (a .tol)) (b b′ : Places) (r : Factorized)
-    (x : Exact a b) (w : Written a b r b′) (z : Zeros b b′) where
-  abbrev v : Told
-  v = whole done a b
-
+    (v : Told) (x : Exact a b) (w : Written v a b r b′) (z : Zeros b b′) where
   -- where nothing is refused, the outputs are the factor's
   passes : {A : Type 0} (old new now : A) → refuses v ≡ false → now ≡ after v old new → now ≡ new
   passes old new now p e = e ∙ ap (λ (t : Bool). cond t old new) p
@@ -141,7 +139,7 @@ module _ (a : System) (sound : SystemSound (a .dims) (a .starts) (a .rows) (a .v
       (subst (Demand3 a (c .products) (lStarts a)) (sym (passes (b .lRows) (lRows a ++ drop (stored a) (b .lRows)) (b′ .lRows) p (w .lRows)))
       (keeps a (c .products) (l .0) (drop (stored a) (b .lRows)) (l .1) (l .2)))
 
-  pub factors : Factors done a b r b′
+  factors : FactorsBy done v a b r b′
   factors =
       record {
         outcome = w .outcome;
@@ -171,3 +169,65 @@ module _ (a : System) (sound : SystemSound (a .dims) (a .starts) (a .rows) (a .v
             (parent-of-least (links a) (links-symm a) (blocks a) k (decode (at (parentsOf (links a) (blocks a)) k)) (parents-least (links a) (blocks a) (links-symm a) (sound .plan .blocks) k h));
         demand3 = demand3;
       }
+
+-- the outputs of b, the working column and the scratch of c
+abbrev pub withScratch : (b c : Places) → Places
+withScratch b c = record {
+  order = b .order;
+  parents = b .parents;
+  lStarts = b .lStarts;
+  lRows = b .lRows;
+  lOffsets = b .lOffsets;
+  lValues = b .lValues;
+  diag = b .diag;
+  d = b .d;
+  column = c .column;
+  inverse = c .inverse;
+  sizes = c .sizes;
+  count = c .count;
+  heads = c .heads;
+  into = c .into;
+  stamps = c .stamps;
+  table = c .table;
+  upper = c .upper;
+  bodies = c .bodies;
+  unitStarts = c .unitStarts;
+  dStarts = c .dStarts;
+  places = c .places;
+}
+
+-- the outputs as they are written, then the scratch cleared
+pub kept : (most : ℕ) (a : System) → SystemSound (a .dims) (a .starts) (a .rows) (a .values) (a .perm) (a .late) (a .tol) → (b b₁ b′ : Places) (c c′ : List Float) (r : Factorized) → Exact a b
+    → Written (wholeKept done most a b (length c)) a b r b₁ → Zeros b b′ → c′ ≡ clearedTo (cacheNeed most a) c → FactorsKept done most a b c r (withScratch b₁ b′) c′
+kept most a sound b b₁ b′ c c′ r x w z e =
+    record {
+      factors =
+          factors a sound b (withScratch b₁ b′) r (wholeKept done most a b (length c)) x
+          (record {
+            outcome = w .outcome;
+            order = w .order;
+            parents = w .parents;
+            lStarts = w .lStarts;
+            lRows = w .lRows;
+            lOffsets = w .lOffsets;
+            lValues = w .lValues;
+            diag = w .diag;
+            d = w .d;
+          })
+          (record {
+            column = z .column;
+            inverse = z .inverse;
+            sizes = z .sizes;
+            count = z .count;
+            heads = z .heads;
+            into = z .into;
+            stamps = z .stamps;
+            table = z .table;
+            upper = z .upper;
+            bodies = z .bodies;
+            unitStarts = z .unitStarts;
+            dStarts = z .dStarts;
+            places = z .places;
+          });
+      cache = e;
+    }

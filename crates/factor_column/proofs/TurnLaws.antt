@@ -29,11 +29,13 @@ use Rattle.machine.specs.Machine.{State, Column, load, sequence, worked, stored
 use Rattle.machine.proofs.StepLaws.{products-finished}
 use Rattle.machine.proofs.RunLaws.{Right, columns-keep, sequence-is, touched-is}
 use Rattle.machine.proofs.StopLaws.{run-next}
-use Rattle.block_product.specs.Working.{Shows}
-use Rattle.layout.specs.Layout.{Tables, side, onAt, RowsLaid, DiagonalLaid, Placed}
+use Rattle.block_product.specs.Working.{slot, Shows}
+use Rattle.layout.specs.Layout.{Tables, side, startOf, stopOf, onAt, RowsLaid, DiagonalLaid, Placed}
 use Rattle.load_column.specs.Load.{Fed, LoadedColumn}
 use Rattle.finish_column.specs.Finish.{HoldsAll, Before, Ended, Finishes}
+use Rattle.keep_column.specs.Keep.{Keeps, KeptAll}
 use Rattle.work_column.specs.Work.{Ahead, Works}
+use Rattle.factor_column.proofs.KeptLaws.{kept-more}
 use Rattle.factor_column.specs.Turn.{turnedOf, Counted, Given, Served, UpTo, After, Turns}
 
 -- ---- what the steps need
@@ -87,17 +89,25 @@ counts-so j count (Poor condition) h = tt
 
 module _ (t : Tables) (unitStarts dStarts : List ℕ) where
   -- no column is done, and none is held
-  pub nothing-yet : (a : System) (values diag d : List Float) → UpTo t unitStarts dStarts a 0 values diag d 0
+  pub nothing-yet : (a : System) (values diag d cache : List Float) → UpTo t unitStarts dStarts a 0 values diag d cache 0
   unfolding runTo steps
-  nothing-yet a values diag d =
-      record { state = start; going-on = refl; held = record { column = λ k h. absurd (omega arith); rows = λ k h. absurd (omega arith) }; counted = refl }
+  nothing-yet a values diag d cache =
+      record {
+        state = start;
+        going-on = refl;
+        held = record { column = λ k h. absurd (omega arith); rows = λ k h. absurd (omega arith) };
+        kept = λ k h. absurd (omega arith);
+        counted = refl;
+      }
 
   module _ (into upper : List ℕ) (g : Given) (j : ℕ) (below : j < length (g .dims)) (by-sizes : t .sizes ≡ sizesOf (g .dims) (g .order))
-      (places : List ℕ) (values diag d c c′ : List Float) (count count′ : ℕ)
+      (places : List ℕ) (values diag d cache c c′ : List Float) (count count′ : ℕ)
       (loads : (a : System) → Served t into upper g a → LoadedColumn t a j places c)
-      (works : Works t unitStarts dStarts into upper (length (g .dims)) j places values diag d c count c′ count′)
-      (r : Settled) (values′ diag′ d′ : List Float) (finishes : Finishes t unitStarts dStarts (g .tol) j places c′ values diag d (r, values′, diag′, d′)) where
-    module _ (a : System) (served : Served t into upper g a) (up : UpTo t unitStarts dStarts a j values diag d count) where
+      (works : Works t unitStarts dStarts into upper (length (g .dims)) j places values diag d cache c count c′ count′)
+      (r : Settled) (values′ diag′ d′ : List Float) (finishes : Finishes t unitStarts dStarts (g .tol) j places c′ values diag d (r, values′, diag′, d′))
+      {m : ℕ} (laid : RowsLaid t (length (g .dims)) (length values) m) (cache′ : List Float)
+      (keeps : Keeps (t .sizes) (t .lRows) (t .lOffsets) j (startOf t j) (stopOf t j) values′ (slot (at unitStarts j) (side t j * side t j) diag′) cache cache′) where
+    module _ (a : System) (served : Served t into upper g a) (up : UpTo t unitStarts dStarts a j values diag d cache count) where
       abbrev s : State
       s = up .state
 
@@ -121,7 +131,7 @@ module _ (t : Tables) (unitStarts dStarts : List ℕ) where
       unfolding load
       shown = record { blocks = loads a served .blocks; counted = up .counted }
 
-      ahead : Ahead t unitStarts dStarts into upper (length (g .dims)) j a values diag d s
+      ahead : Ahead t unitStarts dStarts into upper (length (g .dims)) j a values diag d cache s
       ahead =
           record {
             by-sizes = sizes-are;
@@ -130,6 +140,7 @@ module _ (t : Tables) (unitStarts dStarts : List ℕ) where
                 ∙ ap (λ (m : ℕ). columnTriples (linkedUp into upper) m j) many;
             so-far = so-far;
             held = up .held;
+            kept = up .kept;
           }
 
       -- its products are done
@@ -153,17 +164,20 @@ module _ (t : Tables) (unitStarts dStarts : List ℕ) where
           }
 
       -- so its end is the machine's
-      ends : (r : Settled) → Ended t unitStarts dStarts a j (worked a j s) (r, values′, diag′, d′) → After t unitStarts dStarts a j (turnedOf count′ r) values′ diag′ d′
+      ends : (r : Settled) → Ended t unitStarts dStarts a j (worked a j s) (r, values′, diag′, d′) → After t unitStarts dStarts a j (turnedOf count′ r) values′ diag′ d′ cache′
       unfolding stored
       ends (Accepted k) e =
           record {
             state = record { finished = worked a j s .finished ++ (e .0 ∷ []); work = λ i. none; done = worked a j s .done };
             going-on = run-next a j s (up .going-on) ∙ ap (stored (worked a j s)) (e .1);
             held = e .2;
+            kept =
+                kept-more t laid j below unitStarts dStarts values′ diag′ d′ cache cache′ (worked a j s .finished) (e .0) (ap length same-finished ∙ so-far)
+                (subst (KeptAll t unitStarts dStarts cache) (sym same-finished) (up .kept)) (e .2) keeps;
             counted = did .counted;
           }
       ends (NotFinite place pivot) e = run-next a j s (up .going-on) ∙ ap (stored (worked a j s)) e
       ends (Poor condition) e = run-next a j s (up .going-on) ∙ ap (stored (worked a j s)) e
 
-    pub turns : Turns t unitStarts dStarts into upper g j values diag d count (turnedOf count′ r) values′ diag′ d′
+    pub turns : Turns t unitStarts dStarts into upper g j values diag d cache count (turnedOf count′ r) values′ diag′ d′ cache′
     turns a served up = ends a served up r (finishes a count′ (worked a j (up .state)) (before a served up))

@@ -15,6 +15,7 @@ use Rattle.machine.specs.Machine.{State, going, stopped, runTo}
 use Rattle.layout.specs.Layout.{Tables, rowsAt}
 use Rattle.load_column.specs.Load.{Fed}
 use Rattle.finish_column.specs.Finish.{HoldsAll}
+use Rattle.keep_column.specs.Keep.{KeptAll}
 use Rattle.factor_column.specs.declared.core.Turned.{Turned}
 use Rattle.factor_column.specs.declared.core.Turned.the-variants.{Stored, NotFinite, Poor}
 
@@ -50,19 +51,20 @@ pub record Served (t : Tables) (into upper : List ℕ) (g : Given) (a : System) 
   pub by-triples : (j : ℕ) → j < blocks a → columnTriples (links a) (blocks a) j ≡ columnTriples (linkedUp into upper) (blocks a) j
 
 module _ (t : Tables) (unitStarts dStarts : List ℕ) where
-  -- The machine has done its first j columns: the flat lists hold them, and the count is that of its triples.
-  pub record UpTo (a : System) (j : ℕ) (values diag d : List Float) (count : ℕ) : Type 0 where
+  -- The machine has done its first j columns: the flat lists hold them, the cache has their Q, and the count is that of its triples.
+  pub record UpTo (a : System) (j : ℕ) (values diag d cache : List Float) (count : ℕ) : Type 0 where
     pub state : State
     pub going-on : runTo a j ≡ going state
     pub held : HoldsAll t unitStarts dStarts values diag d (state .finished)
+    pub kept : KeptAll t unitStarts dStarts cache (state .finished)
     pub counted : count ≡ length (state .done)
 
   -- column j as it ended: one column more, or the machine's refusal
-  abbrev pub After : System → ℕ → Turned → (values diag d : List Float) → Type 0
-  After a j (Stored count) values diag d = UpTo a (suc j) values diag d count
-  After a j (NotFinite place pivot) values diag d = runTo a (suc j) ≡ stopped (pivotNotFinite j place pivot)
-  After a j (Poor condition) values diag d = runTo a (suc j) ≡ stopped (poorlyConditioned j condition)
+  abbrev pub After : System → ℕ → Turned → (values diag d cache : List Float) → Type 0
+  After a j (Stored count) values diag d cache = UpTo a (suc j) values diag d cache count
+  After a j (NotFinite place pivot) values diag d cache = runTo a (suc j) ≡ stopped (pivotNotFinite j place pivot)
+  After a j (Poor condition) values diag d cache = runTo a (suc j) ≡ stopped (poorlyConditioned j condition)
 
   -- the promise for one column, for every system that is served
-  abbrev pub Turns : (into upper : List ℕ) (g : Given) (j : ℕ) (values diag d : List Float) (count : ℕ) → Turned → (values′ diag′ d′ : List Float) → Type 0
-  Turns into upper g j values diag d count r values′ diag′ d′ = (a : System) → Served t into upper g a → UpTo a j values diag d count → After a j r values′ diag′ d′
+  abbrev pub Turns : (into upper : List ℕ) (g : Given) (j : ℕ) (values diag d cache : List Float) (count : ℕ) → Turned → (values′ diag′ d′ cache′ : List Float) → Type 0
+  Turns into upper g j values diag d cache count r values′ diag′ d′ cache′ = (a : System) → Served t into upper g a → UpTo a j values diag d cache count → After a j r values′ diag′ d′ cache′

@@ -1,6 +1,7 @@
 // One column of the factorization, where the plan's tables are known to be good.
 use block_diag_ldlt::core::Settled;
 use finish_column::core::finish_column;
+use keep_column::core::keep_column;
 use load_column::core::load_column;
 use work_column::core::work_column;
 ghost use mathlib.Core.Path.{_≡_};
@@ -23,7 +24,8 @@ pub enum Turned {
 }
 
 // Column j of the factor of A, whose tables and values are the first five slices; `order` is the order of elimination, `bodies` where
-// each body of A begins. The factor's flat lists are `l_values`, `diag` and d; all else of what is lent mutably is scratch.
+// each body of A begins. The factor's flat lists are `l_values`, `diag` and d. `cache` keeps Q of the finished columns, as far as it is long
+// enough; all else of what is lent mutably is scratch.
 pub fn factor_column(
     dims: &[u32],
     starts: &[u32],
@@ -52,6 +54,7 @@ pub fn factor_column(
     l_values: &mut [f64],
     diag: &mut [f64],
     d: &mut [f64],
+    cache: &mut [f64],
     count: u64,
 ) -> Turned
     requires { ⌜ Source (now dims) (now starts) (now rows) (now values) (now bodies) (now order) (now sizes) ⌝ }
@@ -63,7 +66,7 @@ pub fn factor_column(
     requires { ⌜ (256 ≤ length (now qj)) × (256 ≤ length (now qi)) × (length (now c) < 4294967296) × (count ≤ 16777216 * j) ⌝ }
     ensures { λ _. ⌜ Next (tables (now (sizes .entry)) (now («l_starts» .entry)) (now («l_rows» .entry)) (now («l_offsets» .entry))) (length (now (dims .entry))) (j + 1) (now (next .exit)) × Below (j + 1) (now (stamps .exit)) ⌝ }
     ensures { λ r. ⌜ Counted j r ⌝ }
-    ensures { λ r. ⌜ Turns (tables (now (sizes .entry)) (now («l_starts» .entry)) (now («l_rows» .entry)) (now («l_offsets» .entry))) (now («unit_starts» .entry)) (now («d_starts» .entry)) (now (into .entry)) (now (upper .entry)) (given (now (dims .entry)) (now (starts .entry)) (now (rows .entry)) (now (values .entry)) (now (order .entry)) tol) j (now («l_values» .entry)) (now (diag .entry)) (now (d .entry)) count r (now («l_values» .exit)) (now (diag .exit)) (now (d .exit)) ⌝ }
+    ensures { λ r. ⌜ Turns (tables (now (sizes .entry)) (now («l_starts» .entry)) (now («l_rows» .entry)) (now («l_offsets» .entry))) (now («unit_starts» .entry)) (now («d_starts» .entry)) (now (into .entry)) (now (upper .entry)) (given (now (dims .entry)) (now (starts .entry)) (now (rows .entry)) (now (values .entry)) (now (order .entry)) tol) j (now («l_values» .entry)) (now (diag .entry)) (now (d .entry)) (now (cache .entry)) count r (now («l_values» .exit)) (now (diag .exit)) (now (d .exit)) (now (cache .exit)) ⌝ }
 {
     load_column(
         dims,
@@ -98,6 +101,7 @@ pub fn factor_column(
         &l_values[..],
         &diag[..],
         &d[..],
+        &cache[..],
         qj,
         qi,
         c,
@@ -117,6 +121,17 @@ pub fn factor_column(
         l_values,
         diag,
         d,
+    );
+    keep_column(
+        sizes,
+        l_starts,
+        l_rows,
+        l_offsets,
+        unit_starts,
+        j,
+        &l_values[..],
+        &diag[..],
+        cache,
     );
     turned_by(n, r)
 }

@@ -19,8 +19,8 @@ stops-at a t j h e =
     let z : suc j + (blocks a - suc j) ≡ blocks a = omega arith in
     sym (ap (runTo a) z) ∙ stays a t (suc j) (blocks a - suc j) e
 
-pub whole : (t : Tables) (unitStarts dStarts : List ℕ) (a : System) (j : ℕ) (values diag d : List Float) (count : ℕ) → j ≤ blocks a → blocks a ≤ j
-    → UpTo t unitStarts dStarts a j values diag d count → UpTo t unitStarts dStarts a (blocks a) values diag d count
-whole t unitStarts dStarts a j values diag d count le ge up =
+pub whole : (t : Tables) (unitStarts dStarts : List ℕ) (a : System) (j : ℕ) (values diag d cache : List Float) (count : ℕ) → j ≤ blocks a → blocks a ≤ j
+    → UpTo t unitStarts dStarts a j values diag d cache count → UpTo t unitStarts dStarts a (blocks a) values diag d cache count
+whole t unitStarts dStarts a j values diag d cache count le ge up =
     let z : j ≡ blocks a = omega arith in
-    subst (λ (m : ℕ). UpTo t unitStarts dStarts a m values diag d count) z up
+    subst (λ (m : ℕ). UpTo t unitStarts dStarts a m values diag d cache count) z up

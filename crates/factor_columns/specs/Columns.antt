@@ -18,12 +18,12 @@ told (NotFinite block place pivot) = pivotNotFinite block place pivot
 told (Poor block condition) = poorlyConditioned block condition
 
 module _ (t : Tables) (unitStarts dStarts : List ℕ) where
-  -- all columns are done and held, or the machine stopped at the same refusal
-  abbrev pub Ends : System → Worked → (values diag d : List Float) → Type 0
-  Ends a (Done count) values diag d = UpTo t unitStarts dStarts a (blocks a) values diag d count
-  Ends a (NotFinite block place pivot) values diag d = run a ≡ stopped (pivotNotFinite block place pivot)
-  Ends a (Poor block condition) values diag d = run a ≡ stopped (poorlyConditioned block condition)
+  -- all columns are done, held and kept, or the machine stopped at the same refusal
+  abbrev pub Ends : System → Worked → (values diag d cache : List Float) → Type 0
+  Ends a (Done count) values diag d cache = UpTo t unitStarts dStarts a (blocks a) values diag d cache count
+  Ends a (NotFinite block place pivot) values diag d cache = run a ≡ stopped (pivotNotFinite block place pivot)
+  Ends a (Poor block condition) values diag d cache = run a ≡ stopped (poorlyConditioned block condition)
 
   -- for every system that is served
-  abbrev pub Runs : (into upper : List ℕ) (g : Given) → Worked → (values diag d : List Float) → Type 0
-  Runs into upper g r values diag d = (a : System) → Served t into upper g a → Ends a r values diag d
+  abbrev pub Runs : (into upper : List ℕ) (g : Given) → Worked → (values diag d cache : List Float) → Type 0
+  Runs into upper g r values diag d cache = (a : System) → Served t into upper g a → Ends a r values diag d cache

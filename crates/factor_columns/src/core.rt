@@ -59,6 +59,7 @@ pub fn factor_columns(
     l_values: &mut [f64],
     diag: &mut [f64],
     d: &mut [f64],
+    cache: &mut [f64],
 ) -> Worked
     requires { ⌜ Source (now dims) (now starts) (now rows) (now values) (now bodies) (now order) (now sizes) ⌝ }
     requires { ⌜ RowsLaid (tables (now sizes) (now «l_starts») (now «l_rows») (now «l_offsets»)) (length (now dims)) (length (now «l_values»)) (length (now c)) ⌝ }
@@ -67,7 +68,7 @@ pub fn factor_columns(
     requires { ⌜ Next (tables (now sizes) (now «l_starts») (now «l_rows») (now «l_offsets»)) (length (now dims)) 0 (now next) × (length (now places) ≡ length (now dims)) ⌝ }
     requires { ⌜ (length (now stamps) ≡ length (now dims)) × (length (now out) ≡ length (now dims)) × Below 0 (now stamps) ⌝ }
     requires { ⌜ (256 ≤ length (now qj)) × (256 ≤ length (now qi)) × (length (now c) < 4294967296) ⌝ }
-    ensures { λ r. ⌜ Runs (tables (now (sizes .entry)) (now («l_starts» .entry)) (now («l_rows» .entry)) (now («l_offsets» .entry))) (now («unit_starts» .entry)) (now («d_starts» .entry)) (now (into .entry)) (now (upper .entry)) (given (now (dims .entry)) (now (starts .entry)) (now (rows .entry)) (now (values .entry)) (now (order .entry)) tol) r (now («l_values» .exit)) (now (diag .exit)) (now (d .exit)) ⌝ }
+    ensures { λ r. ⌜ Runs (tables (now (sizes .entry)) (now («l_starts» .entry)) (now («l_rows» .entry)) (now («l_offsets» .entry))) (now («unit_starts» .entry)) (now («d_starts» .entry)) (now (into .entry)) (now (upper .entry)) (given (now (dims .entry)) (now (starts .entry)) (now (rows .entry)) (now (values .entry)) (now (order .entry)) tol) r (now («l_values» .exit)) (now (diag .exit)) (now (d .exit)) (now (cache .exit)) ⌝ }
 {
     let n = dims.len();
     let mut count: u64 = 0;
@@ -101,6 +102,7 @@ pub fn factor_columns(
             l_values,
             diag,
             d,
+            cache,
             count,
         );
         match r {

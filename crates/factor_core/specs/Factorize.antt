@@ -156,23 +156,23 @@ pub record Demand3 (a : System) (products : ℕ) (starts rows : List ℕ) : Type
   -- which are those of the machine's column, in their order
   pub listed : (k : ℕ) → k < blocks a → rowsIn starts rows k ≡ rowsAt state k
 
--- What is left under an early verdict v:
+-- What is left under a verdict v before the plan and a verdict w before the numbers:
 --     v refuses                                  all is as it was
---     only a need that the plan shows refuses    the outputs are as they were, scratch is zeros
+--     only w refuses, a need that the plan shows the outputs are as they were, scratch is zeros
 --     13 or 14                                   order, parents and L's tables are the plan's, the numbers are NaN in full, scratch is zeros
 --     accepted                                   the same tables, the numbers are those of the machine's last state, scratch is zeros
 -- Places beyond a need are as they were in every case.
-pub record Factors (v : Told) (a : System) (b : Places) (r : Factorized) (b′ : Places) : Type 0 where
-  pub outcome : told r ≡ firstOf (whole v a b) (answered a (run a))
+pub record FactorsBy (v w : Told) (a : System) (b : Places) (r : Factorized) (b′ : Places) : Type 0 where
+  pub outcome : told r ≡ firstOf w (answered a (run a))
   -- the outputs
-  pub order : b′ .order ≡ after (whole v a b) (b .order) (order a ++ drop (blocks a) (b .order))
-  pub parents : b′ .parents ≡ after (whole v a b) (b .parents) (parentsOf (links a) (blocks a) ++ drop (blocks a) (b .parents))
-  pub lStarts : b′ .lStarts ≡ after (whole v a b) (b .lStarts) (lStarts a ++ drop (blocks a + 1) (b .lStarts))
-  pub lRows : b′ .lRows ≡ after (whole v a b) (b .lRows) (lRows a ++ drop (stored a) (b .lRows))
-  pub lOffsets : b′ .lOffsets ≡ after (whole v a b) (b .lOffsets) (lOffsets a ++ drop (stored a + 1) (b .lOffsets))
-  pub lValues : b′ .lValues ≡ after (whole v a b) (b .lValues) (valuesAfter a (run a) ++ drop (numbers a) (b .lValues))
-  pub diag : b′ .diag ≡ after (whole v a b) (b .diag) (unitsAfter a (run a) ++ drop (unitsNeed (a .dims)) (b .diag))
-  pub d : b′ .d ≡ after (whole v a b) (b .d) (pivotsAfter a (run a) ++ drop (scalarCount (a .dims)) (b .d))
+  pub order : b′ .order ≡ after w (b .order) (order a ++ drop (blocks a) (b .order))
+  pub parents : b′ .parents ≡ after w (b .parents) (parentsOf (links a) (blocks a) ++ drop (blocks a) (b .parents))
+  pub lStarts : b′ .lStarts ≡ after w (b .lStarts) (lStarts a ++ drop (blocks a + 1) (b .lStarts))
+  pub lRows : b′ .lRows ≡ after w (b .lRows) (lRows a ++ drop (stored a) (b .lRows))
+  pub lOffsets : b′ .lOffsets ≡ after w (b .lOffsets) (lOffsets a ++ drop (stored a + 1) (b .lOffsets))
+  pub lValues : b′ .lValues ≡ after w (b .lValues) (valuesAfter a (run a) ++ drop (numbers a) (b .lValues))
+  pub diag : b′ .diag ≡ after w (b .diag) (unitsAfter a (run a) ++ drop (unitsNeed (a .dims)) (b .diag))
+  pub d : b′ .d ≡ after w (b .d) (pivotsAfter a (run a) ++ drop (scalarCount (a .dims)) (b .d))
   -- the working column and the scratch
   pub column : b′ .column ≡ after v (b .column) (zeros (workNeed (a .dims)) ++ drop (workNeed (a .dims)) (b .column))
   pub inverse : b′ .inverse ≡ after v (b .inverse) (cleared (blocks a) (b .inverse))
@@ -188,8 +188,12 @@ pub record Factors (v : Told) (a : System) (b : Places) (r : Factorized) (b′ :
   pub dStarts : b′ .dStarts ≡ after v (b .dStarts) (cleared (blocks a + 1) (b .dStarts))
   pub places : b′ .places ≡ after v (b .places) (cleared (blocks a) (b .places))
   -- each parent is Liu's, and an accepted factorization keeps demand 3
-  pub liu : refuses (whole v a b) ≡ false → (k : ℕ) → k < blocks a → Parent (links a) (blocks a) k (decode (at (b′ .parents) k))
+  pub liu : refuses w ≡ false → (k : ℕ) → k < blocks a → Parent (links a) (blocks a) k (decode (at (b′ .parents) k))
   pub demand3 : (c : Counts) → r ≡ variant.Accepted c → Demand3 a (c .products) (b′ .lStarts) (b′ .lRows)
+
+-- the promise of `factorize` under the early verdict v
+abbrev pub Factors : (v : Told) (a : System) (b : Places) (r : Factorized) (b′ : Places) → Type 0
+Factors v a b r b′ = FactorsBy v (whole v a b) a b r b′
 
 -- each buffer but L's rows, offsets and values has exactly what it needs
 pub record Exact (a : System) (b : Places) : Type 0 where

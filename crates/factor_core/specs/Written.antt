@@ -3,7 +3,7 @@ use Prim.Native.Nat.{ℕ, _+_}
 use mathlib.Core.List.{List, [], _∷_, _++_}
 use mathlib.Core.Path.{_≡_}
 use lib.ListN.{drop}
-use Rattle.refusal.specs.Refusal.{done, firstOf, after}
+use Rattle.refusal.specs.Refusal.{Told, firstOf, after}
 use Rattle.needs.specs.Needs.{Lent}
 use Rattle.elimination_tree.specs.Tree.{parentsOf}
 use Rattle.machine.specs.System.{System, blocks, links, order}
@@ -13,7 +13,7 @@ use Rattle.factor_columns.specs.declared.core.Worked.the-variants as worked
 use Rattle.factor_setup.specs.Exact.{stored, numbers, lStarts, lRows, lOffsets, valuesAfter, unitsAfter, pivotsAfter}
 use Rattle.factor_core.specs.declared.Factorized.{Factorized}
 use Rattle.factor_core.specs.declared.Factorized.the-variants as variant
-use Rattle.factor_core.specs.Factorize.{told, Places, whole, answered}
+use Rattle.factor_core.specs.Factorize.{told, Places, answered}
 
 -- how the end of the columns is told, with what L has
 abbrev pub factorizedBy : (stored numbers : ℕ) → Worked → Factorized
@@ -21,22 +21,23 @@ factorizedBy stored numbers (worked.Done count) = variant.Accepted (record { sto
 factorizedBy stored numbers (worked.NotFinite block place pivot) = variant.NotFinite block place pivot
 factorizedBy stored numbers (worked.Poor block condition) = variant.Poor block condition
 
--- the needs that only the plan shows, by the lengths of L's offsets, values and rows
-abbrev pub planNeeds : (offsets values rows stored numbers : ℕ) → List Lent
-planNeeds offsets values rows stored numbers =
+-- the needs that only the plan shows, by the lengths of L's offsets, values, the cache and L's rows
+abbrev pub planNeeds : (offsets values cache rows stored numbers kept : ℕ) → List Lent
+planNeeds offsets values cache rows stored numbers kept =
     record { which = 4; have = offsets; need = stored + 1 }
     ∷ record { which = 5; have = values; need = numbers }
+    ∷ record { which = 21; have = cache; need = kept }
     ∷ record { which = 3; have = rows; need = stored }
     ∷ []
 
--- The outputs, where each but L's rows, offsets and values has exactly its need: as they were where a need that only the plan shows is not met, else the factor's.
-pub record Written (a : System) (b : Places) (r : Factorized) (b′ : Places) : Type 0 where
-  pub outcome : told r ≡ firstOf (whole done a b) (answered a (run a))
-  pub order : b′ .order ≡ after (whole done a b) (b .order) (order a)
-  pub parents : b′ .parents ≡ after (whole done a b) (b .parents) (parentsOf (links a) (blocks a))
-  pub lStarts : b′ .lStarts ≡ after (whole done a b) (b .lStarts) (lStarts a)
-  pub lRows : b′ .lRows ≡ after (whole done a b) (b .lRows) (lRows a ++ drop (stored a) (b .lRows))
-  pub lOffsets : b′ .lOffsets ≡ after (whole done a b) (b .lOffsets) (lOffsets a ++ drop (stored a + 1) (b .lOffsets))
-  pub lValues : b′ .lValues ≡ after (whole done a b) (b .lValues) (valuesAfter a (run a) ++ drop (numbers a) (b .lValues))
-  pub diag : b′ .diag ≡ after (whole done a b) (b .diag) (unitsAfter a (run a))
-  pub d : b′ .d ≡ after (whole done a b) (b .d) (pivotsAfter a (run a))
+-- The outputs, where each but L's rows, offsets and values has exactly its need: as they were where w, the verdict before the numbers, refuses, else the factor's.
+pub record Written (w : Told) (a : System) (b : Places) (r : Factorized) (b′ : Places) : Type 0 where
+  pub outcome : told r ≡ firstOf w (answered a (run a))
+  pub order : b′ .order ≡ after w (b .order) (order a)
+  pub parents : b′ .parents ≡ after w (b .parents) (parentsOf (links a) (blocks a))
+  pub lStarts : b′ .lStarts ≡ after w (b .lStarts) (lStarts a)
+  pub lRows : b′ .lRows ≡ after w (b .lRows) (lRows a ++ drop (stored a) (b .lRows))
+  pub lOffsets : b′ .lOffsets ≡ after w (b .lOffsets) (lOffsets a ++ drop (stored a + 1) (b .lOffsets))
+  pub lValues : b′ .lValues ≡ after w (b .lValues) (valuesAfter a (run a) ++ drop (numbers a) (b .lValues))
+  pub diag : b′ .diag ≡ after w (b .diag) (unitsAfter a (run a))
+  pub d : b′ .d ≡ after w (b .d) (pivotsAfter a (run a))

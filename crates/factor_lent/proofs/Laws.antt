@@ -1,33 +1,19 @@
 -- How a factorization in the first places of longer buffers is one in the whole. Assumes nothing.
-use Prim.Native.Nat.{ℕ, _+_, _-_, _≤_, _<_}
+use Prim.Native.Nat.{ℕ, _+_, _≤_}
 use mathlib.Core.Bool.{Bool, true, false, cond}
-use mathlib.Core.List.{List, _++_, append-nil}
-use mathlib.Core.Logic.{_↔_}
-use mathlib.Core.Path.{_≡_, refl, sym, ap, ap₂, subst, _∙_}
+use mathlib.Core.List.{List, _++_}
+use mathlib.Core.Path.{_≡_, refl, sym, ap, ap₂, _∙_}
 use native.Mathlib.Omega.{arith}
-use lib.Dec.{T}
-use lib.Seq.{slice, length-take-le}
-use lib.ListN.{length, take, drop, replicate, take-append-drop, drop-of-length-le, length-append}
+use lib.Ieee.{Float}
+use lib.Seq.{length-take-le}
+use lib.ListN.{length, take, drop, replicate, take-append-drop}
 use Rattle.scalar.specs.Block.{zeros}
-use Rattle.graph.specs.Sets.{elem, between}
-use Rattle.graph.specs.Links.{rowsIn}
-use Rattle.graph.specs.Path.{Stored}
-use Rattle.graph.specs.Count.{productsOf}
-use Rattle.graph.specs.Tree.{Parent}
-use Rattle.graph.proofs.SetLaws.{between-elim}
-use Rattle.graph.proofs.SumLaws.{sum-ext}
 use Rattle.refusal.specs.Refusal.{Told, done, refuses, after}
-use Rattle.tables.specs.Verdict.{at}
-use Rattle.buckets.proofs.Lists.{front}
-use Rattle.elimination_tree.specs.Tree.{decode, parentsOf}
-use Rattle.scalars.specs.Scalars.{scalarCount}
-use Rattle.machine.specs.System.{System, blocks, links, order}
-use Rattle.machine.specs.Machine.{run}
-use Rattle.layout.specs.Layout.{unitsNeed, workNeed}
-use Rattle.factor_setup.specs.Exact.{lStarts, unitsAfter, pivotsAfter}
-use Rattle.factor_core.proofs.FitLaws.{join-length}
+use Rattle.machine.specs.System.{System, blocks}
+use Rattle.layout.specs.Layout.{workNeed}
 use Rattle.factor_cleared.proofs.CoreLaws.{exact}
-use Rattle.factor_core.specs.Factorize.{Places, whole, Demand3, Factors, Exact}
+use Rattle.factor_core.specs.Factorize.{Places, FactorsBy, Exact}
+use Rattle.factor_core.specs.Cache.{wholeKept, FactorsKept}
 use Rattle.factor_core.specs.declared.Factorized.{Factorized}
 use Rattle.factor_lent.specs.Room.{Enough, Exactly, Outputs, PlanScratch, NumberScratch}
 
@@ -117,10 +103,9 @@ module _ (a : System) (b : Places) where
   }
 
   -- a factorization in what is cut is one in the whole
-  pub plan-lengthened : (c : Places) (r : Factorized) → PlanScratch Enough a (b .inverse) (b .sizes) (b .count) (b .heads) (b .into) (b .stamps) (b .table) (b .upper)
-      → Factors done a (cutPlan a b) r c → Factors done a b r (joinPlan a b c)
-  unfolding whole
-  plan-lengthened c r m q = record {
+  plan-lengthened : (w : Told) (c : Places) (r : Factorized) → PlanScratch Enough a (b .inverse) (b .sizes) (b .count) (b .heads) (b .into) (b .stamps) (b .table) (b .upper)
+      → FactorsBy done w a (cutPlan a b) r c → FactorsBy done w a b r (joinPlan a b c)
+  plan-lengthened w c r m q = record {
     outcome = q .outcome;
     order = q .order;
     parents = q .parents;
@@ -212,10 +197,9 @@ module _ (a : System) (work : ℕ) (b : Places) where
   }
 
   -- a factorization in what is cut is one in the whole
-  pub numbers-lengthened : (c : Places) (r : Factorized) → work ≡ workNeed (a .dims) → NumberScratch Enough a (b .column) (b .bodies) (b .unitStarts) (b .dStarts) (b .places)
-      → Factors done a (cutNumbers a work b) r c → Factors done a b r (joinNumbers a work b c)
-  unfolding whole
-  numbers-lengthened c r work-is m q = record {
+  numbers-lengthened : (w : Told) (c : Places) (r : Factorized) → work ≡ workNeed (a .dims) → NumberScratch Enough a (b .column) (b .bodies) (b .unitStarts) (b .dStarts) (b .places)
+      → FactorsBy done w a (cutNumbers a work b) r c → FactorsBy done w a b r (joinNumbers a work b c)
+  numbers-lengthened w c r work-is m q = record {
     outcome = q .outcome;
     order = q .order;
     parents = q .parents;
@@ -244,6 +228,7 @@ module _ (a : System) (work : ℕ) (b : Places) where
 
 -- ---- all of them
 
+-- cut to exactly their needs
 pub all-exact : (a : System) (b : Places) → Outputs Exactly a (b .order) (b .parents) (b .lStarts) (b .diag) (b .d) → PlanScratch Exactly a (b .inverse) (b .sizes) (b .count) (b .heads) (b .into) (b .stamps) (b .table) (b .upper) → NumberScratch Exactly a (b .column) (b .bodies) (b .unitStarts) (b .dStarts) (b .places) → Exact a b
 all-exact a b outputs plan numbers = record {
   order = outputs .of-order;
@@ -265,3 +250,15 @@ all-exact a b outputs plan numbers = record {
   dStarts = numbers .of-d-starts;
   places = numbers .of-places;
 }
+
+-- a factorization in what is cut is one in the whole: the needs that only the plan shows are of buffers that are not cut
+pub all-lengthened : (most : ℕ) (a : System) (work : ℕ) (b c : Places) (r : Factorized) (cache cache′ : List Float) → work ≡ workNeed (a .dims)
+    → PlanScratch Enough a (b .inverse) (b .sizes) (b .count) (b .heads) (b .into) (b .stamps) (b .table) (b .upper) → NumberScratch Enough a (b .column) (b .bodies) (b .unitStarts) (b .dStarts) (b .places)
+    → FactorsKept done most a (cutNumbers a work (cutPlan a b)) cache r c cache′ → FactorsKept done most a b cache r (joinPlan a b (joinNumbers a work (cutPlan a b) c)) cache′
+unfolding wholeKept
+all-lengthened most a work b c r cache cache′ work-is plan numbers q =
+    let w = wholeKept done most a b (length cache) in
+    record {
+      factors = plan-lengthened a b w (joinNumbers a work (cutPlan a b) c) r plan (numbers-lengthened a work (cutPlan a b) w c r work-is numbers (q .factors));
+      cache = q .cache;
+    }

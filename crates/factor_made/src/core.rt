@@ -2,11 +2,15 @@
 use factor_columns::core::Worked;
 use factor_numbers::core::write_numbers;
 use factor_setup::core::write_tables;
+ghost use mathlib.Core.Path.{_≡_};
+ghost use lib.ListN.{length};
+ghost use Rattle.scalar.specs.Block.{zeros};
 ghost use Rattle.tables.specs.Sound.{SystemSound};
 ghost use Rattle.factor_setup.specs.Exact.{system, Analyzed, TableRoom, NumberRoom};
 ghost use Rattle.factor_made.specs.Made.{Makes};
 
-// The factor by the analysis in `tree`, `into`, `upper` and `count`. From `column` on all is scratch.
+// The factor by the analysis in `tree`, `into`, `upper` and `count`. From `column` on all is scratch. The
+// cache ends as zeros.
 pub fn make_factor(
     dims: &[u32],
     starts: &[u32],
@@ -35,12 +39,14 @@ pub fn make_factor(
     unit_starts: &mut [u32],
     d_starts: &mut [u32],
     places: &mut [u32],
+    cache: &mut [f64],
 ) -> Worked
     requires { ⌜ SystemSound (now dims) (now starts) (now rows) (now values) (now perm) (now late) tol ⌝ }
     requires { ⌜ Analyzed (system (now dims) (now starts) (now rows) (now values) (now perm) (now late) tol) (now into) (now upper) (now tree) (now count) ⌝ }
     requires { ⌜ TableRoom (system (now dims) (now starts) (now rows) (now values) (now perm) (now late) tol) (now order) (now parents) (now «l_starts») (now «l_rows») (now «l_offsets») (now inverse) (now sizes) (now stamps) (now bodies) (now «unit_starts») (now «d_starts») (now places) ⌝ }
     requires { ⌜ NumberRoom (system (now dims) (now starts) (now rows) (now values) (now perm) (now late) tol) (now «l_values») (now diag) (now d) (now column) (now inverse) (now places) ⌝ }
     ensures { λ r. ⌜ Makes (system (now (dims .entry)) (now (starts .entry)) (now (rows .entry)) (now (values .entry)) (now (perm .entry)) (now (late .entry)) tol) r (now (order .exit)) (now (parents .exit)) (now («l_starts» .exit)) (now («l_rows» .exit)) (now («l_offsets» .exit)) (now («l_values» .exit)) (now (diag .exit)) (now (d .exit)) ⌝ }
+    ensures { λ _. ⌜ now (cache .exit) ≡ zeros (length (now (cache .entry))) ⌝ }
 {
     write_tables(
         dims,
@@ -92,5 +98,6 @@ pub fn make_factor(
         l_values,
         diag,
         d,
+        cache,
     )
 }

@@ -170,7 +170,7 @@ module _ (a : System) (sound : SystemSound (a .dims) (a .starts) (a .rows) (a .v
 
     -- the flat lists of a whole run
     module _ (values diag d : List Float) (count : ℕ) (ev : length values ≡ numbers a) (eu : length diag ≡ unitsNeed (a .dims)) (ed : length d ≡ scalarCount (a .dims))
-        (up : UpTo t′ unitStarts dStarts a n values diag d count) where
+        {cache : List Float} (up : UpTo t′ unitStarts dStarts a n values diag d cache count) where
       all-done : length (up .state .finished) ≡ n
       all-done = run-demand3 a (up .state) (up .going-on) .whole
 
@@ -248,16 +248,16 @@ module _ (a : System) (sound : SystemSound (a .dims) (a .starts) (a .rows) (a .v
             of-d = spoilt d ∙ ap nans ed ∙ sym (ap (pivotsAfter a) ran);
           }
 
-      by-end : (r : Worked) → Ends t′ unitStarts dStarts a r values diag d → Left r values diag d
-      by-end (Done count) up =
+      by-end : (cache : List Float) (r : Worked) → Ends t′ unitStarts dStarts a r values diag d cache → Left r values diag d
+      by-end cache (Done count) up =
           record {
             outcome = told-so values diag d count ev eu ed up;
             of-values = values-so values diag d count ev eu ed up;
             of-diag = units-so values diag d count ev eu ed up;
             of-d = pivots-so values diag d count ev eu ed up;
           }
-      by-end (NotFinite block place pivot) ran = refused (NotFinite block place pivot) _ refl (λ x. refl) ran
-      by-end (Poor block condition) ran = refused (Poor block condition) _ refl (λ x. refl) ran
+      by-end cache (NotFinite block place pivot) ran = refused (NotFinite block place pivot) _ refl (λ x. refl) ran
+      by-end cache (Poor block condition) ran = refused (Poor block condition) _ refl (λ x. refl) ran
 
-      pub ends : (r : Worked) → Runs t′ unitStarts dStarts into upper g r values diag d → Left r values diag d
-      ends r runs = by-end r (runs a served)
+      pub ends : (cache : List Float) (r : Worked) → Runs t′ unitStarts dStarts into upper g r values diag d cache → Left r values diag d
+      ends cache r runs = by-end cache r (runs a served)

@@ -2,7 +2,10 @@
 use factor_columns::core::Worked;
 use factor_columns::core::factor_columns;
 use scalar::blank;
+use scalar::clear;
 ghost use mathlib.Core.Path.{_≡_};
+ghost use lib.ListN.{length};
+ghost use Rattle.scalar.specs.Block.{zeros};
 ghost use Rattle.elimination_tree.specs.Tree.{parentsOf};
 ghost use Rattle.pattern.specs.Moved.{UpperOf};
 ghost use Rattle.tables.specs.Sound.{SystemSound};
@@ -12,7 +15,7 @@ ghost use Rattle.factor_columns.specs.Columns.{told};
 ghost use Rattle.factor_setup.specs.Exact.{system, valuesAfter, unitsAfter, pivotsAfter, Tabled, NumberRoom};
 ghost use Rattle.factor_numbers.specs.Spoilt.{spoiltBy};
 
-// The numbers of the factor by these tables; after a refusal they are NaN in full.
+// The numbers of the factor by these tables; after a refusal they are NaN in full. The cache ends as zeros.
 pub fn write_numbers(
     dims: &[u32],
     starts: &[u32],
@@ -40,6 +43,7 @@ pub fn write_numbers(
     l_values: &mut [f64],
     diag: &mut [f64],
     d: &mut [f64],
+    cache: &mut [f64],
 ) -> Worked
     requires { ⌜ SystemSound (now dims) (now starts) (now rows) (now values) (now perm) (now late) tol ⌝ }
     requires { ⌜ UpperOf (blocks (system (now dims) (now starts) (now rows) (now values) (now perm) (now late) tol)) (links (system (now dims) (now starts) (now rows) (now values) (now perm) (now late) tol)) (now into) (now upper) × (now tree ≡ parentsOf (links (system (now dims) (now starts) (now rows) (now values) (now perm) (now late) tol)) (blocks (system (now dims) (now starts) (now rows) (now values) (now perm) (now late) tol))) ⌝ }
@@ -49,6 +53,7 @@ pub fn write_numbers(
     ensures { λ _. ⌜ now («l_values» .exit) ≡ valuesAfter (system (now (dims .entry)) (now (starts .entry)) (now (rows .entry)) (now (values .entry)) (now (perm .entry)) (now (late .entry)) tol) (machine.run (system (now (dims .entry)) (now (starts .entry)) (now (rows .entry)) (now (values .entry)) (now (perm .entry)) (now (late .entry)) tol)) ⌝ }
     ensures { λ _. ⌜ now (diag .exit) ≡ unitsAfter (system (now (dims .entry)) (now (starts .entry)) (now (rows .entry)) (now (values .entry)) (now (perm .entry)) (now (late .entry)) tol) (machine.run (system (now (dims .entry)) (now (starts .entry)) (now (rows .entry)) (now (values .entry)) (now (perm .entry)) (now (late .entry)) tol)) ⌝ }
     ensures { λ _. ⌜ now (d .exit) ≡ pivotsAfter (system (now (dims .entry)) (now (starts .entry)) (now (rows .entry)) (now (values .entry)) (now (perm .entry)) (now (late .entry)) tol) (machine.run (system (now (dims .entry)) (now (starts .entry)) (now (rows .entry)) (now (values .entry)) (now (perm .entry)) (now (late .entry)) tol)) ⌝ }
+    ensures { λ _. ⌜ now (cache .exit) ≡ zeros (length (now (cache .entry))) ⌝ }
 {
     let r = factor_columns(
         dims,
@@ -77,10 +82,12 @@ pub fn write_numbers(
         l_values,
         diag,
         d,
+        cache,
     );
     spoil(r, l_values);
     spoil(r, diag);
     spoil(r, d);
+    clear(cache);
     r
 }
 

@@ -1,14 +1,13 @@
 -- How a factorization in the first places of longer outputs is one in the whole. Assumes nothing.
-use Prim.Native.Nat.{ℕ, _+_, _-_, _≤_, _<_}
-use mathlib.Core.Bool.{Bool, true, false, cond}
-use mathlib.Core.List.{List, _++_, append-nil}
+use Prim.Native.Nat.{ℕ, _+_, _-_, _<_}
+use mathlib.Core.List.{List, _++_}
 use mathlib.Core.Logic.{_↔_}
 use mathlib.Core.Path.{_≡_, refl, sym, ap, ap₂, subst, _∙_}
 use native.Mathlib.Omega.{arith}
 use lib.Dec.{T}
+use lib.Ieee.{Float}
 use lib.Seq.{slice, length-take-le}
-use lib.ListN.{length, take, drop, replicate, take-append-drop, drop-of-length-le, length-append}
-use Rattle.scalar.specs.Block.{zeros}
+use lib.ListN.{length, take, drop}
 use Rattle.graph.specs.Sets.{elem, between}
 use Rattle.graph.specs.Links.{rowsIn}
 use Rattle.graph.specs.Path.{Stored}
@@ -16,21 +15,20 @@ use Rattle.graph.specs.Count.{productsOf}
 use Rattle.graph.specs.Tree.{Parent}
 use Rattle.graph.proofs.SetLaws.{between-elim}
 use Rattle.graph.proofs.SumLaws.{sum-ext}
-use Rattle.refusal.specs.Refusal.{Told, done, refuses, after}
+use Rattle.refusal.specs.Refusal.{Told, done}
 use Rattle.tables.specs.Verdict.{at}
 use Rattle.buckets.proofs.Lists.{front}
 use Rattle.elimination_tree.specs.Tree.{decode, parentsOf}
 use Rattle.scalars.specs.Scalars.{scalarCount}
 use Rattle.machine.specs.System.{System, blocks, links, order}
 use Rattle.machine.specs.Machine.{run}
-use Rattle.layout.specs.Layout.{unitsNeed, workNeed}
+use Rattle.layout.specs.Layout.{unitsNeed}
 use Rattle.factor_setup.specs.Exact.{lStarts, unitsAfter, pivotsAfter}
-use Rattle.factor_core.proofs.FitLaws.{join-length}
-use Rattle.factor_cleared.proofs.CoreLaws.{exact}
-use Rattle.factor_core.specs.Factorize.{Places, whole, Demand3, Factors, Exact}
+use Rattle.factor_core.specs.Factorize.{Places, Demand3, FactorsBy}
+use Rattle.factor_core.specs.Cache.{wholeKept, FactorsKept}
 use Rattle.factor_core.specs.declared.Factorized.{Factorized}
-use Rattle.factor_lent.specs.Room.{Enough, Exactly, Outputs, PlanScratch, NumberScratch}
-use Rattle.factor_lent.proofs.Laws.{fits, cut-length, lifted}
+use Rattle.factor_lent.specs.Room.{Enough, Exactly, Outputs}
+use Rattle.factor_lent.proofs.Laws.{cut-length, lifted}
 
 -- demand 3 reads no place beyond the n + 1 column starts
 demand3-joined : (a : System) (products : ℕ) (starts rest rows : List ℕ) → length starts ≡ blocks a + 1 → Demand3 a products starts rows → Demand3 a products (starts ++ rest) rows
@@ -118,20 +116,19 @@ module _ (a : System) (units scalars : ℕ) (b : Places) where
   }
 
   -- a factorization in what is cut is one in the whole
-  pub outputs-lengthened : (c : Places) (r : Factorized) → units ≡ unitsNeed (a .dims) → scalars ≡ scalarCount (a .dims) → Outputs Enough a (b .order) (b .parents) (b .lStarts) (b .diag) (b .d)
+  lengthened : (w : Told) (c : Places) (r : Factorized) → units ≡ unitsNeed (a .dims) → scalars ≡ scalarCount (a .dims) → Outputs Enough a (b .order) (b .parents) (b .lStarts) (b .diag) (b .d)
       → length (c .parents) ≡ length (take (blocks a) (b .parents)) → length (c .lStarts) ≡ length (take (blocks a + 1) (b .lStarts))
-      → Factors done a (cutOutputs a units scalars b) r c → Factors done a b r (joinOutputs a units scalars b c)
-  unfolding whole
-  outputs-lengthened c r units-is scalars-is m parents-kept starts-kept q = record {
+      → FactorsBy done w a (cutOutputs a units scalars b) r c → FactorsBy done w a b r (joinOutputs a units scalars b c)
+  lengthened w c r units-is scalars-is m parents-kept starts-kept q = record {
     outcome = q .outcome;
-    order = lifted (whole done a b) (blocks a) (blocks a) (b .order) (order a) (c .order) refl (m .of-order) (q .order);
-    parents = lifted (whole done a b) (blocks a) (blocks a) (b .parents) (parentsOf (links a) (blocks a)) (c .parents) refl (m .of-parents) (q .parents);
-    lStarts = lifted (whole done a b) (blocks a + 1) (blocks a + 1) (b .lStarts) (lStarts a) (c .lStarts) refl (m .of-l-starts) (q .lStarts);
+    order = lifted w (blocks a) (blocks a) (b .order) (order a) (c .order) refl (m .of-order) (q .order);
+    parents = lifted w (blocks a) (blocks a) (b .parents) (parentsOf (links a) (blocks a)) (c .parents) refl (m .of-parents) (q .parents);
+    lStarts = lifted w (blocks a + 1) (blocks a + 1) (b .lStarts) (lStarts a) (c .lStarts) refl (m .of-l-starts) (q .lStarts);
     lRows = q .lRows;
     lOffsets = q .lOffsets;
     lValues = q .lValues;
-    diag = lifted (whole done a b) units (unitsNeed (a .dims)) (b .diag) (unitsAfter a (run a)) (c .diag) units-is (m .of-diag) (q .diag);
-    d = lifted (whole done a b) scalars (scalarCount (a .dims)) (b .d) (pivotsAfter a (run a)) (c .d) scalars-is (m .of-d) (q .d);
+    diag = lifted w units (unitsNeed (a .dims)) (b .diag) (unitsAfter a (run a)) (c .diag) units-is (m .of-diag) (q .diag);
+    d = lifted w scalars (scalarCount (a .dims)) (b .d) (pivotsAfter a (run a)) (c .d) scalars-is (m .of-d) (q .d);
     column = q .column;
     inverse = q .inverse;
     sizes = q .sizes;
@@ -147,4 +144,14 @@ module _ (a : System) (units scalars : ℕ) (b : Places) where
     places = q .places;
     liu = λ passes k h. subst (λ (p : ℕ). Parent (links a) (blocks a) k (decode p)) (sym (front (c .parents) (drop (blocks a) (b .parents)) k (subst (λ (l : ℕ). k < l) (sym (parents-kept ∙ length-take-le (blocks a) (b .parents) (m .of-parents))) h))) (q .liu passes k h);
     demand3 = λ counts is. demand3-joined a (counts .products) (c .lStarts) (drop (blocks a + 1) (b .lStarts)) (c .lRows) (starts-kept ∙ length-take-le (blocks a + 1) (b .lStarts) (m .of-l-starts)) (q .demand3 counts is);
+  }
+
+  -- the same of what is promised: the needs that only the plan shows are of buffers that are not cut
+  pub outputs-lengthened : (most : ℕ) (c : Places) (r : Factorized) (cache cache′ : List Float) → units ≡ unitsNeed (a .dims) → scalars ≡ scalarCount (a .dims) → Outputs Enough a (b .order) (b .parents) (b .lStarts) (b .diag) (b .d)
+      → length (c .parents) ≡ length (take (blocks a) (b .parents)) → length (c .lStarts) ≡ length (take (blocks a + 1) (b .lStarts))
+      → FactorsKept done most a (cutOutputs a units scalars b) cache r c cache′ → FactorsKept done most a b cache r (joinOutputs a units scalars b c) cache′
+  unfolding wholeKept
+  outputs-lengthened most c r cache cache′ units-is scalars-is m parents-kept starts-kept q = record {
+    factors = lengthened (wholeKept done most a b (length cache)) c r units-is scalars-is m parents-kept starts-kept (q .factors);
+    cache = q .cache;
   }

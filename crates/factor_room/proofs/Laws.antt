@@ -3,6 +3,7 @@ use Prim.Native.Nat.{ℕ, _+_}
 use mathlib.Core.Bool.{Bool, true, cond, false≢true}
 use mathlib.Core.List.{List, [], _∷_}
 use mathlib.Core.Path.{_≡_, sym, ap, subst, _∙_}
+use lib.Ieee.{Float}
 use lib.ListN.{length}
 use Rattle.refusal.specs.Refusal.{Told, refuses, verdict, after}
 use Rattle.refusal.proofs.Laws.{stays-refused, first-refuses}
@@ -10,7 +11,8 @@ use Rattle.needs.specs.Needs.{lentFrom, needChecks}
 use Rattle.scalars.specs.Scalars.{scalarCount}
 use Rattle.machine.specs.System.{System, blocks}
 use Rattle.layout.specs.Layout.{unitsNeed, workNeed}
-use Rattle.factor_core.specs.Factorize.{told, Places, lengthsOf, firstList, planList, whole, Factors}
+use Rattle.factor_core.specs.Factorize.{told, Places, lengthsOf, firstList, FactorsBy}
+use Rattle.factor_core.specs.Cache.{keptList, wholeKept, FactorsKept}
 use Rattle.factor_core.specs.declared.Factorized.{Factorized}
 
 -- ---- refused before the plan: nothing is changed
@@ -19,12 +21,9 @@ use Rattle.factor_core.specs.declared.Factorized.{Factorized}
 unchanged : {A : Type 0} (v : Told) (old new : A) → refuses v ≡ true → old ≡ after v old new
 unchanged v old new stops = sym (ap (λ (t : Bool). cond t old new) stops)
 
--- the outcome is the verdict
-pub refused : (v : Told) (a : System) (b : Places) (r : Factorized) → told r ≡ v → refuses v ≡ true → Factors v a b r b
-unfolding whole
-refused v a b r e stops =
-    let w = whole v a b in
-    let stays : w ≡ v = stays-refused v (needChecks (planList a b)) stops in
+-- the outcome is the verdict, and so is the one before the numbers
+refused-by : (v w : Told) (a : System) (b : Places) (r : Factorized) → told r ≡ v → refuses v ≡ true → w ≡ v → FactorsBy v w a b r b
+refused-by v w a b r e stops stays =
     let also : refuses w ≡ true = ap refuses stays ∙ stops in
     record {
       outcome = e ∙ (sym stays ∙ first-refuses w _ also);
@@ -53,9 +52,18 @@ refused v a b r e stops =
       demand3 = λ c is. absurd (false≢true (sym (ap (λ (t : Factorized). refuses (told t)) is) ∙ (ap refuses e ∙ stops)));
     }
 
+-- the cache too is as it was
+pub refused : (v : Told) (most : ℕ) (a : System) (b : Places) (cache : List Float) (r : Factorized) → told r ≡ v → refuses v ≡ true → FactorsKept v most a b cache r b cache
+unfolding wholeKept
+refused v most a b cache r e stops =
+    record {
+      factors = refused-by v (wholeKept v most a b (length cache)) a b r e stops (stays-refused v (needChecks (keptList most a b (length cache))) stops);
+      cache = unchanged v cache _ stops;
+    }
+
 -- where two verdicts are one, so is what is promised under them
-pub same-verdict : (a : System) (b : Places) (r : Factorized) (c : Places) {v w : Told} → v ≡ w → Factors v a b r c → Factors w a b r c
-same-verdict a b r c e q = subst (λ (t : Told). Factors t a b r c) e q
+pub same-verdict : (most : ℕ) (a : System) (b : Places) (cache : List Float) (r : Factorized) (c : Places) (cache′ : List Float) {v w : Told} → v ≡ w → FactorsKept v most a b cache r c cache′ → FactorsKept w most a b cache r c cache′
+same-verdict most a b cache r c cache′ e q = subst (λ (t : Told). FactorsKept t most a b cache r c cache′) e q
 
 -- ---- the needs that the code works out are those of the promise
 

@@ -7,7 +7,8 @@ ghost use Rattle.refusal.specs.Refusal.{verdict};
 ghost use Rattle.needs.specs.Needs.{needChecks};
 ghost use Rattle.tables.specs.Sound.{SystemSound};
 ghost use Rattle.factor_setup.specs.Exact.{system};
-ghost use Rattle.factor_core.specs.Factorize.{lent, Factors, firstList};
+ghost use Rattle.factor_core.specs.Factorize.{lent, firstList};
+ghost use Rattle.factor_core.specs.Cache.{FactorsKept};
 
 // The factorization of a night whose tables have passed: the buffers' needs, then the work in the first places of each.
 pub fn lent_core(
@@ -39,9 +40,11 @@ pub fn lent_core(
     unit_starts: &mut [u32],
     d_starts: &mut [u32],
     places: &mut [u32],
+    most: usize,
+    cache: &mut [f64],
 ) -> Factorized
     requires { ⌜ SystemSound (now dims) (now starts) (now rows) (now values) (now perm) (now late) tol ⌝ }
-    ensures { λ r. ⌜ Factors (verdict (needChecks (firstList (system (now (dims .entry)) (now (starts .entry)) (now (rows .entry)) (now (values .entry)) (now (perm .entry)) (now (late .entry)) tol) (lent (now (order .entry)) (now (parents .entry)) (now («l_starts» .entry)) (now («l_rows» .entry)) (now («l_offsets» .entry)) (now («l_values» .entry)) (now (diag .entry)) (now (d .entry)) (now (column .entry)) (now (inverse .entry)) (now (sizes .entry)) (now (count .entry)) (now (heads .entry)) (now (into .entry)) (now (stamps .entry)) (now (table .entry)) (now (upper .entry)) (now (bodies .entry)) (now («unit_starts» .entry)) (now («d_starts» .entry)) (now (places .entry)))))) (system (now (dims .entry)) (now (starts .entry)) (now (rows .entry)) (now (values .entry)) (now (perm .entry)) (now (late .entry)) tol) (lent (now (order .entry)) (now (parents .entry)) (now («l_starts» .entry)) (now («l_rows» .entry)) (now («l_offsets» .entry)) (now («l_values» .entry)) (now (diag .entry)) (now (d .entry)) (now (column .entry)) (now (inverse .entry)) (now (sizes .entry)) (now (count .entry)) (now (heads .entry)) (now (into .entry)) (now (stamps .entry)) (now (table .entry)) (now (upper .entry)) (now (bodies .entry)) (now («unit_starts» .entry)) (now («d_starts» .entry)) (now (places .entry))) r (lent (now (order .exit)) (now (parents .exit)) (now («l_starts» .exit)) (now («l_rows» .exit)) (now («l_offsets» .exit)) (now («l_values» .exit)) (now (diag .exit)) (now (d .exit)) (now (column .exit)) (now (inverse .exit)) (now (sizes .exit)) (now (count .exit)) (now (heads .exit)) (now (into .exit)) (now (stamps .exit)) (now (table .exit)) (now (upper .exit)) (now (bodies .exit)) (now («unit_starts» .exit)) (now («d_starts» .exit)) (now (places .exit))) ⌝ }
+    ensures { λ r. ⌜ FactorsKept (verdict (needChecks (firstList (system (now (dims .entry)) (now (starts .entry)) (now (rows .entry)) (now (values .entry)) (now (perm .entry)) (now (late .entry)) tol) (lent (now (order .entry)) (now (parents .entry)) (now («l_starts» .entry)) (now («l_rows» .entry)) (now («l_offsets» .entry)) (now («l_values» .entry)) (now (diag .entry)) (now (d .entry)) (now (column .entry)) (now (inverse .entry)) (now (sizes .entry)) (now (count .entry)) (now (heads .entry)) (now (into .entry)) (now (stamps .entry)) (now (table .entry)) (now (upper .entry)) (now (bodies .entry)) (now («unit_starts» .entry)) (now («d_starts» .entry)) (now (places .entry)))))) most (system (now (dims .entry)) (now (starts .entry)) (now (rows .entry)) (now (values .entry)) (now (perm .entry)) (now (late .entry)) tol) (lent (now (order .entry)) (now (parents .entry)) (now («l_starts» .entry)) (now («l_rows» .entry)) (now («l_offsets» .entry)) (now («l_values» .entry)) (now (diag .entry)) (now (d .entry)) (now (column .entry)) (now (inverse .entry)) (now (sizes .entry)) (now (count .entry)) (now (heads .entry)) (now (into .entry)) (now (stamps .entry)) (now (table .entry)) (now (upper .entry)) (now (bodies .entry)) (now («unit_starts» .entry)) (now («d_starts» .entry)) (now (places .entry))) (now (cache .entry)) r (lent (now (order .exit)) (now (parents .exit)) (now («l_starts» .exit)) (now («l_rows» .exit)) (now («l_offsets» .exit)) (now («l_values» .exit)) (now (diag .exit)) (now (d .exit)) (now (column .exit)) (now (inverse .exit)) (now (sizes .exit)) (now (count .exit)) (now (heads .exit)) (now (into .exit)) (now (stamps .exit)) (now (table .exit)) (now (upper .exit)) (now (bodies .exit)) (now («unit_starts» .exit)) (now («d_starts» .exit)) (now (places .exit))) (now (cache .exit)) ⌝ }
 {
     let n = dims.len();
     let m = rows.len();
@@ -126,6 +129,8 @@ pub fn lent_core(
             unit_starts,
             d_starts,
             places,
+            most,
+            cache,
         ),
         Room::Short { which, need } => Factorized::Short { which, need },
     }

@@ -1,2 +1,2 @@
 -- What belongs to no one function. Each module says at its top what it shows.
-pub mod Laws  -- what the factorization answers where the tables decide
+pub mod Laws  -- a call that is lent no cache

@@ -23,7 +23,7 @@ use Rattle.machine.specs.Machine.{State, Column, columnAt, noColumn, products}
 use Rattle.machine.proofs.StepLaws.{products-finished}
 use Rattle.block_product.specs.Working.{Shows}
 use Rattle.block_product.proofs.SlotLaws.{slot-length}
-use Rattle.column_products.specs.Columns.{Plan, sizeOf, placeOf, Holds, PlacesFit, FactorsFit, ColumnProducts}
+use Rattle.column_products.specs.Columns.{Plan, sizeOf, placeOf, Holds, Kept, PlacesFit, FactorsFit, ColumnProducts}
 use Rattle.reach_products.specs.Reach.{advanced, endOf, rowsFrom, reachTriples, ReachSteps}
 use Rattle.row_products.proofs.RowLaws.{products-append}
 
@@ -111,22 +111,23 @@ module _ (p : Plan) (lStarts : List ℕ) (j : ℕ) (reach next : List ℕ) where
         length-append (reachTriples p lStarts next j (take t reach)) (reachTriples p lStarts next j (drop t reach)),
       )
 
-  module _ (values diag d c₀ : List Float) (count₀ : ℕ) where
+  module _ (values diag d cache c₀ : List Float) (count₀ : ℕ) where
     -- the first t columns are done
     abbrev pub ReachUpTo : List Float → ℕ → ℕ → Type 0
-    ReachUpTo c count t = ReachSteps p lStarts j reach next values diag d c₀ count₀ (reachTriples p lStarts next j (take t reach)) c count
+    ReachUpTo c count t = ReachSteps p lStarts j reach next values diag d cache c₀ count₀ (reachTriples p lStarts next j (take t reach)) c count
 
     pub reach-none : ReachUpTo c₀ count₀ 0
     unfolding products
-    reach-none on all apart s holds sh = sh
+    reach-none on all apart s holds kept sh = sh
 
     pub reach-more : (t : ℕ) (c c′ : List Float) (count count′ : ℕ) → t < length reach → ReachUpTo c count t
-        → ColumnProducts p j (at reach t) (at next (at reach t)) (endOf lStarts (at reach t)) values diag d c count c′ count′
+        → ColumnProducts p j (at reach t) (at next (at reach t)) (endOf lStarts (at reach t)) values diag d cache c count c′ count′
         → ReachUpTo c′ count′ (t + 1)
-    reach-more t c c′ count count′ h up col on all apart s holds sh =
+    reach-more t c c′ count count′ h up col on all apart s holds kept sh =
         subst (Shows (sizeOf p) (placeOf p) on j c′ count′) (sym whole)
         (col .steps on (all t h) apart s₁
-        (subst (Holds p values diag d (at reach t) (at next (at reach t)) (endOf lStarts (at reach t))) same (holds t h)) (up on all apart s holds sh))
+        (subst (Holds p values diag d (at reach t) (at next (at reach t)) (endOf lStarts (at reach t))) same (holds t h))
+        (subst (Kept p cache (at reach t) (at next (at reach t)) (endOf lStarts (at reach t))) same (kept t h)) (up on all apart s holds kept sh))
       where
         s₁ : State
         s₁ = products (sizeOf p) (reachTriples p lStarts next j (take t reach)) s
@@ -140,5 +141,5 @@ module _ (p : Plan) (lStarts : List ℕ) (j : ℕ) (reach next : List ℕ) where
             ∙ products-append (sizeOf p) (reachTriples p lStarts next j (take t reach)) (map (triple j (at reach t)) (rowsFrom p lStarts next (at reach t))) s
 
     pub reach-all : (t : ℕ) (c : List Float) (count : ℕ) → length reach ≤ t → ReachUpTo c count t
-        → ReachSteps p lStarts j reach next values diag d c₀ count₀ (reachTriples p lStarts next j reach) c count
-    reach-all t c count h up = subst (λ (l : List ℕ). ReachSteps p lStarts j reach next values diag d c₀ count₀ (reachTriples p lStarts next j l) c count) (take-all t reach h) up
+        → ReachSteps p lStarts j reach next values diag d cache c₀ count₀ (reachTriples p lStarts next j reach) c count
+    reach-all t c count h up = subst (λ (l : List ℕ). ReachSteps p lStarts j reach next values diag d cache c₀ count₀ (reachTriples p lStarts next j l) c count) (take-all t reach h) up

@@ -10,7 +10,7 @@ use Rattle.graph.specs.Count.{Triple, triple}
 use Rattle.tables.specs.Verdict.{at}
 use Rattle.machine.specs.Machine.{State, columnAt, products}
 use Rattle.block_product.specs.Working.{slot, Apart, Shows}
-use Rattle.column_products.specs.Columns.{Plan, sizeOf, placeOf, Holds, PlacesFit, FactorsFit}
+use Rattle.column_products.specs.Columns.{Plan, sizeOf, placeOf, Holds, Kept, PlacesFit, FactorsFit}
 
 -- next[k] one further, for each k listed
 abbrev pub advanced : List ℕ → List ℕ → List ℕ
@@ -39,15 +39,16 @@ module _ (p : Plan) (lStarts : List ℕ) where
     pub factors : (t : ℕ) → t < length reach → FactorsFit p j (at reach t) diag d qj
 
   -- where the working column and the count showed a state, they show the one after the block products `did`
-  abbrev pub ReachSteps : (j : ℕ) (reach next : List ℕ) (values diag d c : List Float) → ℕ → (did : List Triple) → List Float → ℕ → Type 0
-  ReachSteps j reach next values diag d c count did c′ count′ =
+  abbrev pub ReachSteps : (j : ℕ) (reach next : List ℕ) (values diag d cache c : List Float) → ℕ → (did : List Triple) → List Float → ℕ → Type 0
+  ReachSteps j reach next values diag d cache c count did c′ count′ =
       (on : List ℕ) → ((t : ℕ) → t < length reach → (i : ℕ) → T (elem i (rowsFrom next (at reach t))) → T (elem i on))
       → Apart (sizeOf p) (placeOf p) on j
       → (s : State) → ((t : ℕ) → t < length reach → Holds p values diag d (at reach t) (at next (at reach t)) (endOf lStarts (at reach t)) (columnAt s (at reach t)))
+      → ((t : ℕ) → t < length reach → Kept p cache (at reach t) (at next (at reach t)) (endOf lStarts (at reach t)) (columnAt s (at reach t)))
       → Shows (sizeOf p) (placeOf p) on j c count s → Shows (sizeOf p) (placeOf p) on j c′ count′ (products (sizeOf p) did s)
 
-  pub record ReachProducts (j : ℕ) (reach next : List ℕ) (values diag d c : List Float) (count : ℕ) (next′ : List ℕ) (c′ : List Float) (count′ : ℕ) : Type 0 where
+  pub record ReachProducts (j : ℕ) (reach next : List ℕ) (values diag d cache c : List Float) (count : ℕ) (next′ : List ℕ) (c′ : List Float) (count′ : ℕ) : Type 0 where
     pub moved : next′ ≡ advanced reach next
     -- one greater for each product
     pub counts : count′ ≡ count + length (reachTriples next j reach)
-    pub steps : ReachSteps j reach next values diag d c count (reachTriples next j reach) c′ count′
+    pub steps : ReachSteps j reach next values diag d cache c count (reachTriples next j reach) c′ count′

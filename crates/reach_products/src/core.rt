@@ -20,6 +20,7 @@ pub fn apply_reach(
     values: &[f64],
     diag: &[f64],
     d: &[f64],
+    cache: &[f64],
     qj: &mut [f64],
     qi: &mut [f64],
     c: &mut [f64],
@@ -27,7 +28,7 @@ pub fn apply_reach(
 ) -> u64
     requires { ⌜ ReachFit (plan (now sizes) (now places) (now «l_rows») (now «l_offsets») (now «unit_starts») (now «d_starts»)) (now «l_starts») j (now reach) (now next) (length (now values)) (length (now diag)) (length (now d)) (length (now qj)) (length (now qi)) (length (now c)) ⌝ }
     requires { ⌜ count + length (reachTriples (plan (now sizes) (now places) (now «l_rows») (now «l_offsets») (now «unit_starts») (now «d_starts»)) (now «l_starts») (now next) j (now reach)) < 2 ^ 64 ⌝ }
-    ensures { λ r. ⌜ ReachProducts (plan (now (sizes .entry)) (now (places .entry)) (now («l_rows» .entry)) (now («l_offsets» .entry)) (now («unit_starts» .entry)) (now («d_starts» .entry))) (now («l_starts» .entry)) j (now (reach .entry)) (now (next .entry)) (now (values .entry)) (now (diag .entry)) (now (d .entry)) (now (c .entry)) count (now (next .exit)) (now (c .exit)) r ⌝ }
+    ensures { λ r. ⌜ ReachProducts (plan (now (sizes .entry)) (now (places .entry)) (now («l_rows» .entry)) (now («l_offsets» .entry)) (now («unit_starts» .entry)) (now («d_starts» .entry))) (now («l_starts» .entry)) j (now (reach .entry)) (now (next .entry)) (now (values .entry)) (now (diag .entry)) (now (d .entry)) (now (cache .entry)) (now (c .entry)) count (now (next .exit)) (now (c .exit)) r ⌝ }
 {
     let mut n = count;
     for t in 0..reach.len() {
@@ -48,6 +49,7 @@ pub fn apply_reach(
             values,
             diag,
             d,
+            cache,
             qj,
             qi,
             c,

@@ -34,7 +34,7 @@ use Rattle.machine.specs.Machine.{columnAt, load, products, sequence, worked}
 use Rattle.machine.proofs.ListLaws.{gather-ext}
 use Rattle.block_product.specs.Working.{slot, Shows}
 use Rattle.block_product.proofs.SlotLaws.{at-slot, slot-length}
-use Rattle.column_products.specs.Columns.{Plan, Holds, PlacesFit, FactorsFit}
+use Rattle.column_products.specs.Columns.{Plan, Holds, Kept, PlacesFit, FactorsFit}
 use Rattle.reach_products.specs.Reach.{advanced, rowsFrom, reachTriples, ReachFit, ReachProducts}
 use Rattle.reach_products.proofs.ReachLaws.{advanced-length, advanced-other}
 use Rattle.layout.specs.Layout.{Tables, side, startOf, stopOf, rowsAt, onAt, planAt, RowsLaid, DiagonalLaid, Placed}
@@ -201,13 +201,13 @@ module _ (t : Tables) (n v w : ℕ) (laid : RowsLaid t n v w) (into upper : List
         (λ k m. ap (map (triple j k)) (from-is k m p refl ∙ ap (λ (l : List ℕ). j ∷ filter (λ i. ltb j i) l) (grown k (in-table k m))))
         ∙ ap (gather (λ k. map (triple j k) (j ∷ filter (λ i. ltb j i) (rows linked n k)))) (reach-tree linked n (linked-symm into upper) j below)
 
-    pub works : (values diag′ d′ c c′ : List Float) (count count′ : ℕ) (next′ : List ℕ)
-        → ReachProducts p (t .lStarts) j found next values diag′ d′ c count next′ c′ count′
-        → Works t unitStarts dStarts into upper n j places values diag′ d′ c count c′ count′
+    pub works : (values diag′ d′ cache c c′ : List Float) (count count′ : ℕ) (next′ : List ℕ)
+        → ReachProducts p (t .lStarts) j found next values diag′ d′ cache c count next′ c′ count′
+        → Works t unitStarts dStarts into upper n j places values diag′ d′ cache c count c′ count′
     unfolding load
-    works values diag′ d′ c c′ count count′ next′ did a s ahead shown =
+    works values diag′ d′ cache c c′ count count′ next′ did a s ahead shown =
         subst (Shows (side t) (at places) (onAt t j) j c′ count′) same
-        (did .steps (onAt t j) (λ u h. on-from (at found u) (elem-at found u h) p refl) (apart t laid j below places placed) (load a j s) held shown)
+        (did .steps (onAt t j) (λ u h. on-from (at found u) (elem-at found u h) p refl) (apart t laid j below places placed) (load a j s) held keeps shown)
       where
         same : products (side t) (reachTriples p (t .lStarts) next j found) (load a j s) ≡ worked a j s
         same =
@@ -223,6 +223,15 @@ module _ (t : Tables) (n v w : ℕ) (laid : RowsLaid t n v w) (into upper : List
             let q = ahead .held .column k (omega arith) in
             let lo = next-inside k m .0 in
             record { bodies = λ x le lt. q .bodies x (omega arith) lt; by-unit = q .by-unit; by-d = q .by-d }
+
+        keeps : (u : ℕ) → u < length found → Kept p cache (at found u) (at next (at found u)) (stopOf t (at found u)) (columnAt (load a j s) (at found u))
+        keeps u h x le lt f =
+            let k = at found u in
+            let m = elem-at found u h in
+            let b = is-before k m in
+            let g = ahead .so-far in
+            let lo = next-inside k m .0 in
+            ahead .kept k (omega arith) x (omega arith) lt f
 
     -- at most 4,096 columns reach j, with at most 4,096 rows each
     pub few : length found ≤ n → n ≤ 4096 → length (reachTriples p (t .lStarts) next j found) ≤ 16777216

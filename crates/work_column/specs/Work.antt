@@ -17,6 +17,7 @@ use Rattle.machine.specs.Machine.{State, load, sequence, worked}
 use Rattle.block_product.specs.Working.{Shows}
 use Rattle.layout.specs.Layout.{Tables, side, startOf, rowsAt, onAt}
 use Rattle.finish_column.specs.Finish.{HoldsAll}
+use Rattle.keep_column.specs.Keep.{KeptAll}
 
 module _ (t : Tables) where
   -- where the first row of column k from j on stands in the row table
@@ -37,14 +38,15 @@ module _ (t : Tables) where
 
 module _ (t : Tables) (unitStarts dStarts into upper : List ℕ) (n j : ℕ) where
   -- the machine before column j: its finished columns are held, and it will work through the pattern's products
-  pub record Ahead (a : System) (values diag d : List Float) (s : State) : Type 0 where
+  pub record Ahead (a : System) (values diag d cache : List Float) (s : State) : Type 0 where
     pub by-sizes : t .sizes ≡ sizesOf (a .dims) (order a)
     pub by-sequence : sequence a j s ≡ columnTriples (linkedUp into upper) n j
     pub so-far : length (s .finished) ≡ j
     pub held : HoldsAll t unitStarts dStarts values diag d (s .finished)
+    pub kept : KeptAll t unitStarts dStarts cache (s .finished)
 
   -- where the working column and the count showed column j loaded, they show it with its products done
-  abbrev pub Works : (places : List ℕ) (values diag d c : List Float) (count : ℕ) (c′ : List Float) (count′ : ℕ) → Type 0
-  Works places values diag d c count c′ count′ =
-      (a : System) (s : State) → Ahead a values diag d s → Shows (side t) (at places) (onAt t j) j c count (load a j s)
+  abbrev pub Works : (places : List ℕ) (values diag d cache c : List Float) (count : ℕ) (c′ : List Float) (count′ : ℕ) → Type 0
+  Works places values diag d cache c count c′ count′ =
+      (a : System) (s : State) → Ahead a values diag d cache s → Shows (side t) (at places) (onAt t j) j c count (load a j s)
       → Shows (side t) (at places) (onAt t j) j c′ count′ (worked a j s)

@@ -28,6 +28,7 @@ pub fn work_column(
     values: &[f64],
     diag: &[f64],
     d: &[f64],
+    cache: &[f64],
     qj: &mut [f64],
     qi: &mut [f64],
     c: &mut [f64],
@@ -42,7 +43,7 @@ pub fn work_column(
     requires { ⌜ (256 ≤ length (now qj)) × (256 ≤ length (now qi)) × (count ≤ 16777216 * j) ⌝ }
     ensures { λ _. ⌜ Next (tables (now (sizes .entry)) (now («l_starts» .entry)) (now («l_rows» .entry)) (now («l_offsets» .entry))) (length (now (tree .entry))) (j + 1) (now (next .exit)) ⌝ }
     ensures { λ r. ⌜ Below (j + 1) (now (stamps .exit)) × (r ≤ 16777216 * (j + 1)) ⌝ }
-    ensures { λ r. ⌜ Works (tables (now (sizes .entry)) (now («l_starts» .entry)) (now («l_rows» .entry)) (now («l_offsets» .entry))) (now («unit_starts» .entry)) (now («d_starts» .entry)) (now (into .entry)) (now (upper .entry)) (length (now (tree .entry))) j (now (places .entry)) (now (values .entry)) (now (diag .entry)) (now (d .entry)) (now (c .entry)) count (now (c .exit)) r ⌝ }
+    ensures { λ r. ⌜ Works (tables (now (sizes .entry)) (now («l_starts» .entry)) (now («l_rows» .entry)) (now («l_offsets» .entry))) (now («unit_starts» .entry)) (now («d_starts» .entry)) (now (into .entry)) (now (upper .entry)) (length (now (tree .entry))) j (now (places .entry)) (now (values .entry)) (now (diag .entry)) (now (d .entry)) (now (cache .entry)) (now (c .entry)) count (now (c .exit)) r ⌝ }
 {
     let top = walk(into, upper, tree, j as u32, stamps, out);
     apply_reach(
@@ -59,6 +60,7 @@ pub fn work_column(
         values,
         diag,
         d,
+        cache,
         qj,
         qi,
         c,

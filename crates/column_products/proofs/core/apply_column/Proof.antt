@@ -35,12 +35,12 @@ earlier c = omega (arith, c .pre .1 .1)
 
 slice-aggregate-multiply-diag : tie.Need-slice-aggregate-multiply-diag
 slice-aggregate-multiply-diag c =
-    let x = c .before .before .before .before .before .before .before .before .before .before .before .before .before .before .before .before .before .before .before .before .before .args in
+    let x = c .before .before .before .before .before .before .before .before .before .before .before .before .before .before .before .before .before .before .before .before .before .before .args in
     sym (length-take-le (at (now (x .sizes)) (x .j) * at (now (x .sizes)) (x .k)) (now (x .qj)) (omega arith))
 
 multiply-diag-requires : tie.Need-multiply-diag-requires
 multiply-diag-requires c κs =
-    let s = c .before .before .before .before .before .before .before .before .before .before .before .before .before .before .before .before .before .before .before .before .before in
+    let s = c .before .before .before .before .before .before .before .before .before .before .before .before .before .before .before .before .before .before .before .before .before .before in
     let x = s .args in
     let h = at (now (x .sizes)) (x .j) in
     let w = at (now (x .sizes)) (x .k) in
@@ -55,7 +55,7 @@ multiply-diag-requires c κs =
 
 slice-reshare-prefix-apply-rows : tie.Need-slice-reshare-prefix-apply-rows
 slice-reshare-prefix-apply-rows c =
-    let s = c .before .before .before .before .before .before .before .before .before .before .before .before .before .before .before .before .before .before .before .before .before .before .before .before .before .before .before in
+    let s = c .before .before .before .before .before .before .before .before .before .before .before .before .before .before .before .before .before .before .before .before .before .before .before .before .before .before .before .before in
     let x = s .args in
     let h = at (now (x .sizes)) (x .j) in
     let w = at (now (x .sizes)) (x .k) in
@@ -67,7 +67,7 @@ slice-reshare-prefix-apply-rows c =
 
 slice-aggregate-apply-rows : tie.Need-slice-aggregate-apply-rows
 slice-aggregate-apply-rows c =
-    let s = c .before .before .before .before .before .before .before .before .before .before .before .before .before .before .before .before .before .before .before .before .before .before .before .before .before .before .before .before in
+    let s = c .before .before .before .before .before .before .before .before .before .before .before .before .before .before .before .before .before .before .before .before .before .before .before .before .before .before .before .before .before in
     let x = s .args in
     let h = at (now (x .sizes)) (x .j) in
     let w = at (now (x .sizes)) (x .k) in
@@ -78,7 +78,7 @@ slice-aggregate-apply-rows c =
 
 apply-rows-requires : tie.Need-apply-rows-requires
 apply-rows-requires c κs =
-    let s = c .before .before .before .before .before .before .before .before .before .before .before .before .before .before .before .before .before .before .before .before .before .before .before .before .before .before .before .before .before .before in
+    let s = c .before .before .before .before .before .before .before .before .before .before .before .before .before .before .before .before .before .before .before .before .before .before .before .before .before .before .before .before .before .before .before in
     let x = s .args in
     let h = at (now (x .sizes)) (x .j) in
     let w = at (now (x .sizes)) (x .k) in
@@ -100,19 +100,19 @@ apply-rows-requires c κs =
 
 same-length : tie.Need-same-length
 same-length c =
-    let x = c .before .before .before .before .before .before .before .before .before .before .before .before .before .before .before .before .before .before .before .before .before .before .before .before .before .before .before .before .before .before .before .before .before .before .before .args in
+    let x = c .before .before .before .before .before .before .before .before .before .before .before .before .before .before .before .before .before .before .before .before .before .before .before .before .before .before .before .before .before .before .before .before .before .before .before .before .args in
     let m = c .before .before .before .before .before .before .before .before .before .before .before .before .before .multiply-diag in
     length-front (now (x .qj)) (m .last .1 .1 .1 .1 .1 .0) (at (now (x .sizes)) (x .j) * at (now (x .sizes)) (x .k)) (m .kept .1 .1 .1 .1 .1 .0)
 
 same-length-2 : tie.Need-same-length-2
-same-length-2 c = c .before .before .before .before .apply-rows .kept .1 .1 .1 .1 .1 .1 .1 .1 .1 .0
+same-length-2 c = c .before .before .before .before .apply-rows .kept .1 .1 .1 .1 .1 .1 .1 .1 .1 .1 .0
 
 same-length-3 : tie.Need-same-length-3
-same-length-3 c = c .before .before .before .before .apply-rows .kept .1 .1 .1 .1 .1 .1 .1 .1 .1 .1 .0
+same-length-3 c = c .before .before .before .before .apply-rows .kept .1 .1 .1 .1 .1 .1 .1 .1 .1 .1 .1 .0
 
 returns : tie.Need-returns
 returns c =
-    let s = c .before .before .before .before .before .before .before .before .before .before .before .before .before .before .before .before .before .before .before .before .before .before .before .before .before .before .before .before .before .before .before .before .before .before .before in
+    let s = c .before .before .before .before .before .before .before .before .before .before .before .before .before .before .before .before .before .before .before .before .before .before .before .before .before .before .before .before .before .before .before .before .before .before .before .before in
     let x = s .args in
     let h = at (now (x .sizes)) (x .j) in
     let w = at (now (x .sizes)) (x .k) in
@@ -120,7 +120,7 @@ returns c =
     let q = m .last .1 .1 .1 .1 .1 .0 in
     let e : length q ≡ h * w = m .kept .1 .1 .1 .1 .1 .0 ∙ length-take-le (h * w) (now (x .qj)) (s .pre .1 .0 .scaled) in
     column-products (tables s) (x .j) (x .k) (x .from) (x .end) (omega (arith, s .pre .1 .1)) _ _ _ (s .pre .0)
-    (now (x .values)) (now (x .diag)) (now (x .d)) q (now (x .c)) _ (x .count) _ (s .pre .1 .1 .0) (s .pre .1 .1 .1)
+    (now (x .values)) (now (x .diag)) (now (x .d)) (now (x .cache)) q (now (x .c)) _ (x .count) _ (s .pre .1 .1 .0) (s .pre .1 .1 .1)
     (m .ensures ∙ simp add-sub-cancel-left)
     (simp (add-sub-cancel-left, take-at q (drop (h * w) (now (x .qj))) (h * w) e) at (c .before .before .before .before .apply-rows .ensures))
 
@@ -130,15 +130,15 @@ apply-column-spec =
     (tie.spec
     (λ c. omega arith)
     (λ c. omega arith)
-    (λ c. omega (arith, c .shared-slice-known10 .given (c .before .before .before .before .before .before .before .before .before .before .before .before .before .args .j)))
+    (λ c. omega (arith, c .shared-slice-known11 .given (c .before .before .before .before .before .before .before .before .before .before .before .before .before .before .args .j)))
     (λ c. omega arith)
     (λ c. omega arith)
     (λ c. omega arith)
     (λ c. omega arith)
     (λ c. omega arith)
     (λ c. omega arith)
-    (λ c. omega (arith, c .shared-slice-known12 .given (c .before .before .before .before .before .before .before .before .before .before .before .before .before .before .before .args .from)))
-    (λ c. omega (arith, first-fits (c .before .before .before .before .before .before .before .before .before .before .before .before .before .before .before)))
+    (λ c. omega (arith, c .shared-slice-known13 .given (c .before .before .before .before .before .before .before .before .before .before .before .before .before .before .before .before .args .from)))
+    (λ c. omega (arith, first-fits (c .before .before .before .before .before .before .before .before .before .before .before .before .before .before .before .before)))
     (λ c. omega arith)
     (λ c. omega arith)
     (λ c. omega arith)
@@ -148,33 +148,33 @@ apply-column-spec =
     (λ c. omega arith)
     (λ c. omega arith)
     (λ c. omega arith)
-    (λ c. omega (arith, first-fits (c .before .before .before .before .before .before .before .before .before .before .before .before .before .before .before .before .before)))
+    (λ c. omega (arith, first-fits (c .before .before .before .before .before .before .before .before .before .before .before .before .before .before .before .before .before .before)))
     (λ c. sums _ _)
     (λ c. sums _ _)
-    (λ c. first-fits (c .before .before .before .before .before .before .before .before .before .before .before .before .before .before .before .before .before))
-    (λ c. omega arith)
-    (λ c. sums _ _)
-    (λ c. sums _ _)
-    (λ c. c .before .before .before .before .before .before .before .before .before .before .before .before .before .before .before .before .before .before .pre .1 .0 .unit)
+    (λ c. first-fits (c .before .before .before .before .before .before .before .before .before .before .before .before .before .before .before .before .before .before))
     (λ c. omega arith)
     (λ c. sums _ _)
     (λ c. sums _ _)
-    (λ c. c .before .before .before .before .before .before .before .before .before .before .before .before .before .before .before .before .before .before .before .pre .1 .0 .of-d)
+    (λ c. c .before .before .before .before .before .before .before .before .before .before .before .before .before .before .before .before .before .before .before .pre .1 .0 .unit)
+    (λ c. omega arith)
+    (λ c. sums _ _)
+    (λ c. sums _ _)
+    (λ c. c .before .before .before .before .before .before .before .before .before .before .before .before .before .before .before .before .before .before .before .before .pre .1 .0 .of-d)
     (λ c. search needs)
     slice-aggregate-multiply-diag
     multiply-diag-requires
     (λ c. omega arith)
-    (λ c. earlier (c .before .before .before .before .before .before .before .before .before .before .before .before .before .before .before .before .before .before .before .before .before .before .before .before))
-    (λ c. earlier (c .before .before .before .before .before .before .before .before .before .before .before .before .before .before .before .before .before .before .before .before .before .before .before .before))
-    (λ c. c .before .before .before .before .before .before .before .before .before .before .before .before .before .before .before .before .before .before .before .before .before .before .before .before .pre .0 .in-tables .0)
-    (λ c. omega arith)
     (λ c. earlier (c .before .before .before .before .before .before .before .before .before .before .before .before .before .before .before .before .before .before .before .before .before .before .before .before .before))
     (λ c. earlier (c .before .before .before .before .before .before .before .before .before .before .before .before .before .before .before .before .before .before .before .before .before .before .before .before .before))
+    (λ c. c .before .before .before .before .before .before .before .before .before .before .before .before .before .before .before .before .before .before .before .before .before .before .before .before .before .pre .0 .in-tables .0)
     (λ c. omega arith)
-    (λ c. omega (arith, c .before .before .before .before .before .before .before .before .before .before .before .before .before .before .before .before .before .before .before .before .before .before .before .before .before .before .pre .1 .0, c .before .before .before .before .before .before .before .before .before .before .before .before .before .before .before .before .before .before .before .before .before .before .before .before .before .before .good))
+    (λ c. earlier (c .before .before .before .before .before .before .before .before .before .before .before .before .before .before .before .before .before .before .before .before .before .before .before .before .before .before))
+    (λ c. earlier (c .before .before .before .before .before .before .before .before .before .before .before .before .before .before .before .before .before .before .before .before .before .before .before .before .before .before))
+    (λ c. omega arith)
+    (λ c. omega (arith, c .before .before .before .before .before .before .before .before .before .before .before .before .before .before .before .before .before .before .before .before .before .before .before .before .before .before .before .pre .1 .0, c .before .before .before .before .before .before .before .before .before .before .before .before .before .before .before .before .before .before .before .before .before .before .before .before .before .before .before .good))
     (λ c. sums _ _)
     (λ c. sums _ _)
-    (λ c. c .before .before .before .before .before .before .before .before .before .before .before .before .before .before .before .before .before .before .before .before .before .before .before .before .before .before .pre .1 .0 .unit)
+    (λ c. c .before .before .before .before .before .before .before .before .before .before .before .before .before .before .before .before .before .before .before .before .before .before .before .before .before .before .before .pre .1 .0 .unit)
     slice-reshare-prefix-apply-rows
     slice-aggregate-apply-rows
     apply-rows-requires

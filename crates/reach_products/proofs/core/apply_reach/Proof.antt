@@ -16,13 +16,13 @@ use Rattle.reach_products.proofs.core.apply_reach.Statement.{statement}
 use Rattle.reach_products.proofs.core.apply_reach.Tie as tie
 
 abbrev Inv-loop : tie.InvT-loop
-Inv-loop sizes places l-starts l-rows l-offsets unit-starts d-starts j reach next₀ values diag d qj₀ qi₀ c₀ count n₀ t₀ t-end next qj qi c n t =
+Inv-loop sizes places l-starts l-rows l-offsets unit-starts d-starts j reach next₀ values diag d cache qj₀ qi₀ c₀ count n₀ t₀ t-end next qj qi c n t =
     (t-end ≡ length reach) × (t ≤ length reach) × (length qj ≡ length qj₀) × (length qi ≡ length qi₀) × (length c ≡ length c₀)
     × (next ≡ advanced (take t reach) next₀) × (n ≡ count + length (reachTriples (plan sizes places l-rows l-offsets unit-starts d-starts) l-starts next₀ j (take t reach)))
-    × ReachUpTo (plan sizes places l-rows l-offsets unit-starts d-starts) l-starts j reach next₀ values diag d c₀ count c n t
+    × ReachUpTo (plan sizes places l-rows l-offsets unit-starts d-starts) l-starts j reach next₀ values diag d cache c₀ count c n t
 
 abbrev μ-loop : tie.MeasureT-loop
-μ-loop sizes places l-starts l-rows l-offsets unit-starts d-starts j reach next₀ values diag d qj₀ qi₀ c₀ count n₀ t₀ t-end next qj qi c n t = length reach - t
+μ-loop sizes places l-starts l-rows l-offsets unit-starts d-starts j reach next₀ values diag d cache qj₀ qi₀ c₀ count n₀ t₀ t-end next qj qi c n t = length reach - t
 
 abbrev tables : tie.Start Inv-loop μ-loop → Plan
 tables s =
@@ -30,16 +30,16 @@ tables s =
     plan (now (x .sizes)) (now (x .places)) (now (x .l-rows)) (now (x .l-offsets)) (now (x .unit-starts)) (now (x .d-starts))
 
 -- what is known of the column of this turn
-turn-fits : (c : tie.In-loop Inv-loop μ-loop) → let x = c .before .before .before .before .before .before .before .before .before .before .before .before .before .before .before .before .before .args in
+turn-fits : (c : tie.In-loop Inv-loop μ-loop) → let x = c .before .before .before .before .before .before .before .before .before .before .before .before .before .before .before .before .before .before .args in
     let l = c .before .loop in
     let k = at (now (x .reach)) (l .t) in
     let from = at (now (x .next)) k in
     let end = at (now (x .l-starts)) (k + 1) in
     (k < length (l .next)) × (k + 1 < length (now (x .l-starts))) × (at (l .next) k ≡ from) × (from < end) × (at (now (x .l-rows)) from ≡ x .j)
-    × (l .n + (end - from) ≡ x .count + length (reachTriples (tables (c .before .before .before .before .before .before .before .before .before .before .before .before .before .before .before .before .before)) (now (x .l-starts)) (now (x .next)) (x .j) (take (l .t + 1) (now (x .reach)))))
+    × (l .n + (end - from) ≡ x .count + length (reachTriples (tables (c .before .before .before .before .before .before .before .before .before .before .before .before .before .before .before .before .before .before)) (now (x .l-starts)) (now (x .next)) (x .j) (take (l .t + 1) (now (x .reach)))))
     × (l .n + (end - from) < 2 ^ 64) × (end ≤ length (now (x .l-rows))) × (length (l .next) ≡ length (now (x .next))) × (l .t < length (now (x .reach)))
 turn-fits c =
-    let s = c .before .before .before .before .before .before .before .before .before .before .before .before .before .before .before .before .before in
+    let s = c .before .before .before .before .before .before .before .before .before .before .before .before .before .before .before .before .before .before in
     let x = s .args in
     let l = c .before .loop in
     let t = l .t in
@@ -58,13 +58,13 @@ turn-fits c =
 
 loop-holds : tie.Need-loop-holds Inv-loop μ-loop
 loop-holds c =
-    let s = c .before .before .before .before .before .before .before .before .before .before .before .before .before .before .before in
+    let s = c .before .before .before .before .before .before .before .before .before .before .before .before .before .before .before .before in
     let x = s .args in
-    (search needs, search needs, refl, refl, refl, refl, omega arith, reach-none (tables s) (now (x .l-starts)) (x .j) (now (x .reach)) (now (x .next)) (now (x .values)) (now (x .diag)) (now (x .d)) (now (x .c)) (x .count))
+    (search needs, search needs, refl, refl, refl, refl, omega arith, reach-none (tables s) (now (x .l-starts)) (x .j) (now (x .reach)) (now (x .next)) (now (x .values)) (now (x .diag)) (now (x .d)) (now (x .cache)) (now (x .c)) (x .count))
 
 apply-column-requires : tie.Need-apply-column-requires Inv-loop μ-loop
 apply-column-requires c κs =
-    let s = c .before .before .before .before .before .before .before .before .before .before .before .before .before .before .before .before .before .before .before .before .before .before .before in
+    let s = c .before .before .before .before .before .before .before .before .before .before .before .before .before .before .before .before .before .before .before .before .before .before .before .before in
     let x = s .args in
     let l = c .before .before .before .before .before .before .before .loop in
     let k = at (now (x .reach)) (l .t) in
@@ -80,7 +80,7 @@ apply-column-requires c κs =
 
 loop-again : tie.Need-loop-again Inv-loop μ-loop
 loop-again c =
-    let s = c .before .before .before .before .before .before .before .before .before .before .before .before .before .before .before .before .before .before .before .before .before .before .before .before .before .before .before .before .before .before in
+    let s = c .before .before .before .before .before .before .before .before .before .before .before .before .before .before .before .before .before .before .before .before .before .before .before .before .before .before .before .before .before .before .before in
     let x = s .args in
     let l = c .before .before .before .before .before .before .before .before .before .before .before .before .before .before .loop in
     let b = c .before .before .before .before .before .before .apply-column in
@@ -89,35 +89,35 @@ loop-again c =
     let g = turn-fits (c .before .before .before .before .before .before .before .before .before .before .before .before .before) in
     let h = g .9 in
     let end = at (now (x .l-starts)) (k + 1) in
-    let c′ = b .last .1 .1 .1 .1 .1 .1 .1 .1 .1 .1 .1 .1 .1 .1 .1 .0 in (
+    let c′ = b .last .1 .1 .1 .1 .1 .1 .1 .1 .1 .1 .1 .1 .1 .1 .1 .1 .0 in (
       search needs,
       omega (arith, h),
-      b .kept .1 .1 .1 .1 .1 .1 .1 .1 .1 .1 .1 .1 .1 .0 ∙ l .inv .2,
-      b .kept .1 .1 .1 .1 .1 .1 .1 .1 .1 .1 .1 .1 .1 .1 .0 ∙ l .inv .3,
-      b .kept .1 .1 .1 .1 .1 .1 .1 .1 .1 .1 .1 .1 .1 .1 .1 .0 ∙ l .inv .4,
+      b .kept .1 .1 .1 .1 .1 .1 .1 .1 .1 .1 .1 .1 .1 .1 .0 ∙ l .inv .2,
+      b .kept .1 .1 .1 .1 .1 .1 .1 .1 .1 .1 .1 .1 .1 .1 .1 .0 ∙ l .inv .3,
+      b .kept .1 .1 .1 .1 .1 .1 .1 .1 .1 .1 .1 .1 .1 .1 .1 .1 .0 ∙ l .inv .4,
       ap (λ (f : ℕ). set (l .next) k (f + 1)) (g .2) ∙ ap (λ (m : List ℕ). set m k (at (now (x .next)) k + 1)) (l .inv .5)
           ∙ next-more (now (x .reach)) (now (x .next)) (l .t) (s .pre .0 .once) h,
       b .ensures .counts ∙ ap (λ (f : ℕ). l .n + (end - f)) (g .2) ∙ g .5,
-      reach-more p (now (x .l-starts)) (x .j) (now (x .reach)) (now (x .next)) (now (x .values)) (now (x .diag)) (now (x .d)) (now (x .c)) (x .count) (l .t) (l .c) c′ (l .n) (b .result) h (l .inv .7)
-          (subst (λ (f : ℕ). ColumnProducts p (x .j) k f end (now (x .values)) (now (x .diag)) (now (x .d)) (l .c) (l .n) c′ (b .result)) (g .2) (b .ensures)),
+      reach-more p (now (x .l-starts)) (x .j) (now (x .reach)) (now (x .next)) (now (x .values)) (now (x .diag)) (now (x .d)) (now (x .cache)) (now (x .c)) (x .count) (l .t) (l .c) c′ (l .n) (b .result) h (l .inv .7)
+          (subst (λ (f : ℕ). ColumnProducts p (x .j) k f end (now (x .values)) (now (x .diag)) (now (x .d)) (now (x .cache)) (l .c) (l .n) c′ (b .result)) (g .2) (b .ensures)),
     )
 
 same-length : tie.Need-same-length Inv-loop μ-loop
 same-length c =
-    let x = c .before .before .before .before .before .before .before .before .before .before .before .before .before .before .before .before .before .args in
+    let x = c .before .before .before .before .before .before .before .before .before .before .before .before .before .before .before .before .before .before .args in
     let l = c .before .loop in
     ap length (l .inv .5) ∙ advanced-length (take (l .t) (now (x .reach))) (now (x .next))
 
 returns : tie.Need-returns Inv-loop μ-loop
 returns c =
-    let s = c .before .before .before .before .before .before .before .before .before .before .before .before .before .before .before .before .before in
+    let s = c .before .before .before .before .before .before .before .before .before .before .before .before .before .before .before .before .before .before in
     let x = s .args in
     let l = c .before .loop in
     let e = take-all (l .t) (now (x .reach)) (omega arith) in
     record {
       moved = l .inv .5 ∙ ap (λ (r : List ℕ). advanced r (now (x .next))) e;
       counts = l .inv .6 ∙ ap (λ (r : List ℕ). x .count + length (reachTriples (tables s) (now (x .l-starts)) (now (x .next)) (x .j) r)) e;
-      steps = reach-all (tables s) (now (x .l-starts)) (x .j) (now (x .reach)) (now (x .next)) (now (x .values)) (now (x .diag)) (now (x .d)) (now (x .c)) (x .count) (l .t) (l .c) (l .n) (omega arith) (l .inv .7);
+      steps = reach-all (tables s) (now (x .l-starts)) (x .j) (now (x .reach)) (now (x .next)) (now (x .values)) (now (x .diag)) (now (x .d)) (now (x .cache)) (now (x .c)) (x .count) (l .t) (l .c) (l .n) (omega arith) (l .inv .7);
     }
 
 pub apply-reach-spec : {M : Type 1} → statement M
@@ -129,19 +129,19 @@ apply-reach-spec =
     loop-holds
     (λ c. omega arith)
     (λ c. omega arith)
-    (λ c. omega (arith, c .shared-slice-known12 .given (c .before .before .loop .t)))
-    (λ c. omega (arith, turn-fits (c .before), c .before .before .before .before .before .before .before .before .before .before .before .before .before .before .before .before .before .before .good))
-    (λ c. omega (arith, turn-fits (c .before .before), c .before .before .before .before .before .before .before .before .before .before .before .before .before .before .before .before .before .before .before .good))
-    (λ c. omega (arith, turn-fits (c .before .before), c .before .before .before .before .before .before .before .before .before .before .before .before .before .before .before .before .before .before .before .good))
-    (λ c. omega (arith, turn-fits (c .before .before), c .before .before .before .before .before .before .before .before .before .before .before .before .before .before .before .before .before .before .before .good))
-    (λ c. omega (arith, turn-fits (c .before .before .before), c .before .before .before .before .before .before .before .before .before .before .before .before .before .before .before .before .before .before .before .before .good))
-    (λ c. omega (arith, c .shared-slice-known13 .given (at (now (c .before .before .before .before .before .before .before .before .before .before .before .before .before .before .before .before .before .before .before .before .args .reach)) (c .before .before .before .before .loop .t) + 1)))
-    (λ c. omega (arith, c .before .slice-known5 .given (at (now (c .before .before .before .before .before .before .before .before .before .before .before .before .before .before .before .before .before .before .before .before .args .reach)) (c .before .before .before .before .loop .t))))
+    (λ c. omega (arith, c .shared-slice-known13 .given (c .before .before .loop .t)))
+    (λ c. omega (arith, turn-fits (c .before), c .before .before .before .before .before .before .before .before .before .before .before .before .before .before .before .before .before .before .before .good))
+    (λ c. omega (arith, turn-fits (c .before .before), c .before .before .before .before .before .before .before .before .before .before .before .before .before .before .before .before .before .before .before .before .good))
+    (λ c. omega (arith, turn-fits (c .before .before), c .before .before .before .before .before .before .before .before .before .before .before .before .before .before .before .before .before .before .before .before .good))
+    (λ c. omega (arith, turn-fits (c .before .before), c .before .before .before .before .before .before .before .before .before .before .before .before .before .before .before .before .before .before .before .before .good))
+    (λ c. omega (arith, turn-fits (c .before .before .before), c .before .before .before .before .before .before .before .before .before .before .before .before .before .before .before .before .before .before .before .before .before .good))
+    (λ c. omega (arith, c .shared-slice-known14 .given (at (now (c .before .before .before .before .before .before .before .before .before .before .before .before .before .before .before .before .before .before .before .before .before .args .reach)) (c .before .before .before .before .loop .t) + 1)))
+    (λ c. omega (arith, c .before .slice-known5 .given (at (now (c .before .before .before .before .before .before .before .before .before .before .before .before .before .before .before .before .before .before .before .before .before .args .reach)) (c .before .before .before .before .loop .t))))
     apply-column-requires
-    (λ c. omega (arith, turn-fits (c .before .before .before .before .before .before .before .before .before .before .before .before .before), c .before .before .before .before .before .before .before .before .before .before .shared-slice-known13 .given (at (now (c .before .before .before .before .before .before .before .before .before .before .before .before .before .before .before .before .before .before .before .before .before .before .before .before .before .before .before .before .before .before .args .reach)) (c .before .before .before .before .before .before .before .before .before .before .before .before .before .before .loop .t) + 1)))
-    (λ c. omega (arith, turn-fits (c .before .before .before .before .before .before .before .before .before .before .before .before .before), c .before .before .before .before .before .before .before .before .before .before .before .before .before .before .before .before .before .before .before .before .before .before .before .before .before .before .before .before .before .before .good))
+    (λ c. omega (arith, turn-fits (c .before .before .before .before .before .before .before .before .before .before .before .before .before), c .before .before .before .before .before .before .before .before .before .before .shared-slice-known14 .given (at (now (c .before .before .before .before .before .before .before .before .before .before .before .before .before .before .before .before .before .before .before .before .before .before .before .before .before .before .before .before .before .before .before .args .reach)) (c .before .before .before .before .before .before .before .before .before .before .before .before .before .before .loop .t) + 1)))
+    (λ c. omega (arith, turn-fits (c .before .before .before .before .before .before .before .before .before .before .before .before .before), c .before .before .before .before .before .before .before .before .before .before .before .before .before .before .before .before .before .before .before .before .before .before .before .before .before .before .before .before .before .before .before .good))
     (λ c. omega (arith, turn-fits (c .before .before .before .before .before .before .before .before .before .before .before .before .before)))
-    (λ c. omega (arith, turn-fits (c .before .before .before .before .before .before .before .before .before .before .before .before .before), c .before .before .before .before .before .before .before .before .before .before .before .before .before .before .before .before .before .before .before .before .before .before .before .before .before .before .before .before .before .before .good))
+    (λ c. omega (arith, turn-fits (c .before .before .before .before .before .before .before .before .before .before .before .before .before), c .before .before .before .before .before .before .before .before .before .before .before .before .before .before .before .before .before .before .before .before .before .before .before .before .before .before .before .before .before .before .before .good))
     (λ c. omega arith)
     loop-again
     same-length

@@ -1,26 +1,21 @@
--- `row_products::core::apply_rows` meets its contract: the invariant: the first t rows are done (`UpTo`). Assumes nothing.
+-- `row_products::core::apply_rows` meets its contract. Assumes nothing.
+
 use Prim.Native.Nat.{_+_, _-_, _*_, _≤_, _<_}
-use mathlib.Core.Path.{_≡_, refl, sym, _∙_}
-use native.Mathlib.Nat.{add-sub-cancel-left}
+use mathlib.Core.Path.{_≡_, refl, _∙_}
 use native.Mathlib.Omega.{arith}
-use lib.ListN.{length, take}
-use lib.Seq.{length-take-le, length-front}
+use lib.ListN.{length}
 use denote.Ref.{now}
 use borrow.Author.Needs.{needs}
-use borrow.Rule.Slice.PartMut.{mid-len}
 use Rattle.tables.specs.Verdict.{at}
-use Rattle.block_product.specs.Working.{slot}
 use Rattle.row_products.proofs.RowLaws.{UpTo, up-none, up-more, up-all}
 use Rattle.row_products.proofs.core.apply_rows.Statement.{statement}
 use Rattle.row_products.proofs.core.apply_rows.Tie as tie
 
 abbrev Inv-loop : tie.InvT-loop
-Inv-loop sizes places rows offsets j k values unit qj qi₀ c₀ count wk n₀ t₀ t-end qi c n t =
-    (t-end ≡ length rows) × (t ≤ length rows) × (length qi ≡ length qi₀) × (length c ≡ length c₀) × (n ≡ count + t)
-    × UpTo (at sizes) (at places) j k rows offsets values unit qj c₀ count c n t
+Inv-loop sizes places rows offsets j k values cache unit qj qi₀ c₀ count n₀ t₀ t-end qi c n t = (t-end ≡ length rows) × (t ≤ length rows) × (length qi ≡ length qi₀) × (length c ≡ length c₀) × (n ≡ count + t) × UpTo (at sizes) (at places) j k rows offsets values cache unit qj c₀ count c n t
 
 abbrev μ-loop : tie.MeasureT-loop
-μ-loop sizes places rows offsets j k values unit qj qi₀ c₀ count wk n₀ t₀ t-end qi c n t = length rows - t
+μ-loop sizes places rows offsets j k values cache unit qj qi₀ c₀ count n₀ t₀ t-end qi c n t = length rows - t
 
 -- what is known of the row of this turn
 row-fits : (c : tie.In-loop Inv-loop μ-loop) → let x = c .before .before .before .before .before .before .before .before .before .before .before .before .args in
@@ -37,53 +32,55 @@ row-fits c =
     (f .row t h .0, f .row t h .1, omega (arith, f .as-many), f .body t h, f .scaled-row t h, f .block t h)
 
 loop-holds : tie.Need-loop-holds Inv-loop μ-loop
-loop-holds c =
-    let x = c .before .before .before .before .before .before .before .before .before .before .args in
-    (search needs, search needs, refl, refl, search needs, up-none (at (now (x .sizes))) (at (now (x .places))) (x .j) (x .k) (now (x .rows)) (now (x .offsets)) (now (x .values)) (now (x .unit)) (now (x .qj)) (now (x .c)) (x .count))
+loop-holds c = let x = c .before .before .before .before .before .before .before .before .before .before .args in (search needs, search needs, refl, refl, search needs, up-none (at (now (x .sizes))) (at (now (x .places))) (x .j) (x .k) (now (x .rows)) (now (x .offsets)) (now (x .values)) (now (x .cache)) (now (x .unit)) (now (x .qj)) (now (x .c)) (x .count))
 
-slice-aggregate-block-product : tie.Need-slice-aggregate-block-product Inv-loop μ-loop
-slice-aggregate-block-product c =
-    let x = c .before .before .before .before .before .before .before .before .before .before .before .before .before .before .before .before .before .before .args in
-    let l = c .before .before .before .before .before .before .before .loop in
-    sym (length-take-le (at (now (x .sizes)) (at (now (x .rows)) (l .t)) * at (now (x .sizes)) (x .k)) (l .qi) (omega (arith, row-fits (c .before .before .before .before .before .before))))
+mul-i : tie.Need-mul-i Inv-loop μ-loop
+mul-i c = omega arith
 
-block-product-requires : tie.Need-block-product-requires Inv-loop μ-loop
-block-product-requires c κs =
-    let x = c .before .before .before .before .before .before .before .before .before .before .before .before .before .before .before .before .before .before .before .args in
-    let l = c .before .before .before .before .before .before .before .before .loop in
-    let i = at (now (x .rows)) (l .t) in
-    let o = at (now (x .offsets)) (l .t) in
-    let room = at (now (x .sizes)) i * at (now (x .sizes)) (x .k) in
-    let f = row-fits (c .before .before .before .before .before .before .before) in
-    let e : length (slot o (o + room - o) (now (x .values))) ≡ o + room - o = mid-len o (o + room) (now (x .values)) (f .3) in
-    let g : length (take room (l .qi)) ≡ room = length-take-le room (l .qi) (omega arith) in
-    omega arith
+shared-slice-read-i : tie.Need-shared-slice-read-i Inv-loop μ-loop
+shared-slice-read-i c = omega arith
+
+cast-i : tie.Need-cast-i Inv-loop μ-loop
+cast-i c = omega (arith, c .shared-slice-known9 .given (c .before .before .loop .t))
+
+mul-o : tie.Need-mul-o Inv-loop μ-loop
+mul-o c = omega arith
+
+shared-slice-read-o : tie.Need-shared-slice-read-o Inv-loop μ-loop
+shared-slice-read-o c = omega (arith, row-fits (c .before .before))
+
+cast-o : tie.Need-cast-o Inv-loop μ-loop
+cast-o c = omega (arith, c .shared-slice-known10 .given (c .before .before .before .loop .t))
+
+mul-place : tie.Need-mul-place Inv-loop μ-loop
+mul-place c = omega (arith, row-fits (c .before .before))
+
+shared-slice-read-place : tie.Need-shared-slice-read-place Inv-loop μ-loop
+shared-slice-read-place c = omega (arith, row-fits (c .before .before .before))
+
+cast-place : tie.Need-cast-place Inv-loop μ-loop
+cast-place c = omega (arith, c .shared-slice-known11 .given (at (now (c .before .before .before .before .before .before .before .before .before .before .before .before .before .before .before .args .rows)) (c .before .before .before .before .loop .t)))
+
+apply-row-requires : tie.Need-apply-row-requires Inv-loop μ-loop
+apply-row-requires c κs = let s = c .before .before .before .before .before .before .before .before .before .before .before .before .before .before .before .before .before in let x = s .args in let l = c .before .before .before .before .before .before .loop in let f = row-fits (c .before .before .before .before .before) in ((f .0, s .pre .1 .0 .0, s .pre .1 .0 .1, s .pre .1 .0 .2, omega arith), ((f .3, omega arith, omega arith), (s .pre .1 .1 .0, s .pre .1 .1 .1)))
+
+add-t : tie.Need-add-t Inv-loop μ-loop
+add-t c = search needs
+
+loop-less : tie.Need-loop-less Inv-loop μ-loop
+loop-less c = search needs
 
 loop-again : tie.Need-loop-again Inv-loop μ-loop
-loop-again c =
-    let x = c .before .before .before .before .before .before .before .before .before .before .before .before .before .before .before .before .before .before .before .before .before .before .before .before .args in
-    let l = c .before .before .before .before .before .before .before .before .before .before .before .before .before .loop in
-    let b = c .before .before .before .before .block-product in
-    let i = at (now (x .rows)) (l .t) in
-    let room = at (now (x .sizes)) i * at (now (x .sizes)) (x .k) in (
-      search needs,
-      search needs,
-      length-front (l .qi) (b .last .1 .1 .1 .1 .1 .1 .1 .0) room (b .kept .1 .1 .1 .1 .1 .1 .1 .0) ∙ l .inv .2,
-      b .kept .1 .1 .1 .1 .1 .1 .1 .1 .0 ∙ l .inv .3,
-      b .ensures .counts ∙ omega arith,
-      up-more (at (now (x .sizes))) (at (now (x .places))) (x .j) (x .k) (now (x .rows)) (now (x .offsets)) (now (x .values)) (now (x .unit)) (now (x .qj)) (now (x .c)) (x .count)
-          (l .t) (l .c) _ (l .n) _ (omega arith) (l .inv .5) (rw add-sub-cancel-left at (b .ensures)),
-    )
+loop-again c = let x = c .before .before .before .before .before .before .before .before .before .before .before .before .before .before .before .before .before .before .before .before .before .before .args in let l = c .before .before .before .before .before .before .before .before .before .before .before .loop in let b = c .before .before .before .before .apply-row in (search needs, search needs, b .kept .1 .1 .1 .1 .1 .1 .1 .1 .1 .0 ∙ l .inv .2, b .kept .1 .1 .1 .1 .1 .1 .1 .1 .1 .1 .0 ∙ l .inv .3, b .ensures .counts ∙ omega arith, up-more (at (now (x .sizes))) (at (now (x .places))) (x .j) (x .k) (now (x .rows)) (now (x .offsets)) (now (x .values)) (now (x .cache)) (now (x .unit)) (now (x .qj)) (now (x .c)) (x .count) (l .t) (l .c) _ (l .n) _ (omega arith) (l .inv .5) (b .ensures))
+
+same-length : tie.Need-same-length Inv-loop μ-loop
+same-length c = search needs
+
+same-length-2 : tie.Need-same-length-2 Inv-loop μ-loop
+same-length-2 c = search needs
 
 returns : tie.Need-returns Inv-loop μ-loop
-returns c =
-    let x = c .before .before .before .before .before .before .before .before .before .before .before .before .args in
-    let l = c .before .loop in
-    record {
-      counts = omega arith;
-      steps = up-all (at (now (x .sizes))) (at (now (x .places))) (x .j) (x .k) (now (x .rows)) (now (x .offsets)) (now (x .values)) (now (x .unit)) (now (x .qj)) (now (x .c)) (x .count)
-          (l .t) (l .c) (l .n) (omega arith) (l .inv .5);
-    }
+returns c = let x = c .before .before .before .before .before .before .before .before .before .before .before .before .args in let l = c .before .loop in record { counts = omega arith; steps = up-all (at (now (x .sizes))) (at (now (x .places))) (x .j) (x .k) (now (x .rows)) (now (x .offsets)) (now (x .values)) (now (x .cache)) (now (x .unit)) (now (x .qj)) (now (x .c)) (x .count) (l .t) (l .c) (l .n) (omega arith) (l .inv .5) }
 
 pub apply-rows-spec : {M : Type 1} → statement M
 apply-rows-spec =
@@ -91,34 +88,20 @@ apply-rows-spec =
     (tie.spec
     Inv-loop
     μ-loop
-    (λ c. omega arith)
-    (λ c. omega arith)
-    (λ c. omega (arith, c .shared-slice-known8 .given (c .before .before .before .before .before .before .before .before .before .before .args .k)))
     loop-holds
-    (λ c. omega arith)
-    (λ c. omega arith)
-    (λ c. omega (arith, c .shared-slice-known9 .given (c .before .before .loop .t)))
-    (λ c. omega arith)
-    (λ c. omega (arith, row-fits (c .before .before)))
-    (λ c. omega (arith, c .shared-slice-known10 .given (c .before .before .before .loop .t)))
-    (λ c. omega (arith, row-fits (c .before .before)))
-    (λ c. omega (arith, row-fits (c .before .before .before)))
-    (λ c. omega (arith, c .shared-slice-known11 .given (at (now (c .before .before .before .before .before .before .before .before .before .before .before .before .before .before .before .args .rows)) (c .before .before .before .before .loop .t))))
-    (λ c. omega (arith, row-fits (c .before .before .before)))
-    (λ c. omega (arith, row-fits (c .before .before .before)))
-    (λ c. omega (arith, row-fits (c .before .before .before)))
-    (λ c. omega (arith, row-fits (c .before .before .before .before)))
-    (λ c. omega (arith, c .shared-slice-known12 .given (at (now (c .before .before .before .before .before .before .before .before .before .before .before .before .before .before .before .before .args .rows)) (c .before .before .before .before .before .loop .t))))
-    (λ c. omega (arith, row-fits (c .before .before .before .before)))
-    (λ c. omega arith)
-    (λ c. omega arith)
-    (λ c. omega (arith, row-fits (c .before .before .before .before)))
-    (λ c. omega (arith, row-fits (c .before .before .before .before .before)))
-    slice-aggregate-block-product
-    block-product-requires
-    (λ c. omega arith)
-    (λ c. omega arith)
+    mul-i
+    shared-slice-read-i
+    cast-i
+    mul-o
+    shared-slice-read-o
+    cast-o
+    mul-place
+    shared-slice-read-place
+    cast-place
+    apply-row-requires
+    add-t
+    loop-less
     loop-again
-    (λ c. omega arith)
-    (λ c. omega arith)
+    same-length
+    same-length-2
     returns)

@@ -20,16 +20,18 @@ walk-requires : tie.Need-walk-requires
 walk-requires c κs = search needs
 
 mul-apply-reach : tie.Need-mul-apply-reach
-mul-apply-reach c = search needs
+mul-apply-reach c =
+    let start = c .before .before .before .before .before .before .before .before .before .before .before .before .before .before .before .before .before .before .before .before .before .before .before .before .before .before .before in
+    omega (arith, c .before .before .before .before .walk .ensures .0 .0, c .before .before .before .before .walk .kept .1 .1 .1 .1 .1 .0, start .pre .1 .1 .1 .1 .1 .0 .1, start .pre .1 .1 .1 .0 .liu .pattern .few, start .good)
 
 sub-apply-reach : tie.Need-sub-apply-reach
 sub-apply-reach c =
-    let start = c .before .before .before .before .before .before .before .before .before .before .before .before .before .before .before .before .before .before .before .before .before .before .before .before .before .before in
+    let start = c .before .before .before .before .before .before .before .before .before .before .before .before .before .before .before .before .before .before .before .before .before .before .before .before .before .before .before in
     omega (arith, c .before .before .before .before .walk .ensures .0 .0, c .before .before .before .before .walk .kept .1 .1 .1 .1 .1 .0, start .pre .1 .1 .1 .1 .1 .0 .1)
 
 part-apply-reach-start : tie.Need-part-apply-reach-start
 part-apply-reach-start c =
-    let start = c .before .before .before .before .before .before .before .before .before .before .before .before .before .before .before .before .before .before .before .before .before .before .before .before .before .before .before in
+    let start = c .before .before .before .before .before .before .before .before .before .before .before .before .before .before .before .before .before .before .before .before .before .before .before .before .before .before .before .before in
     omega (arith, c .before .before .before .before .before .walk .ensures .0 .0, c .before .before .before .before .before .walk .kept .1 .1 .1 .1 .1 .0, start .pre .1 .1 .1 .1 .1 .0 .1)
 
 part-apply-reach-end : tie.Need-part-apply-reach-end
@@ -37,7 +39,7 @@ part-apply-reach-end c = search needs
 
 apply-reach-requires : tie.Need-apply-reach-requires
 apply-reach-requires c κs =
-    let start = c .before .before .before .before .before .before .before .before .before .before .before .before .before .before .before .before .before .before .before .before .before .before .before .before .before .before .before .before .before .before .before .before in
+    let start = c .before .before .before .before .before .before .before .before .before .before .before .before .before .before .before .before .before .before .before .before .before .before .before .before .before .before .before .before .before .before .before .before .before in
     let walk = c .before .before .before .before .before .before .before .before .before .before .walk in
     let t : Tables = tables (start .args .sizes .now) (start .args .l-starts .now) (start .args .l-rows .now) (start .args .l-offsets .now) in
     let n = length (start .args .tree .now) in
@@ -50,6 +52,7 @@ apply-reach-requires c κs =
     let values = start .args .values .now in
     let diag = start .args .diag .now in
     let d = start .args .d .now in
+    let cache = start .args .cache .now in
     let unit-starts = start .args .unit-starts .now in
     let d-starts = start .args .d-starts .now in
     let list : List ℕ = take (length out - walk .result) (drop (walk .result) out) in
@@ -94,7 +97,7 @@ same-length-6 c = search needs
 
 returns : tie.Need-returns
 returns c =
-    let start = c .before .before .before .before .before .before .before .before .before .before .before .before .before .before .before .before .before .before .before .before .before .before .before .before .before .before .before .before .before .before .before .before .before .before .before .before .before .before .before .before .before in
+    let start = c .before .before .before .before .before .before .before .before .before .before .before .before .before .before .before .before .before .before .before .before .before .before .before .before .before .before .before .before .before .before .before .before .before .before .before .before .before .before .before .before .before .before in
     let walk = c .before .before .before .before .before .before .before .before .before .before .before .before .before .before .before .before .before .before .before .walk in
     let t : Tables = tables (start .args .sizes .now) (start .args .l-starts .now) (start .args .l-rows .now) (start .args .l-offsets .now) in
     let n = length (start .args .tree .now) in
@@ -107,6 +110,7 @@ returns c =
     let values = start .args .values .now in
     let diag = start .args .diag .now in
     let d = start .args .d .now in
+    let cache = start .args .cache .now in
     let unit-starts = start .args .unit-starts .now in
     let d-starts = start .args .d-starts .now in
     let list : List ℕ = take (length out - walk .result) (drop (walk .result) out) in
@@ -117,8 +121,8 @@ returns c =
     let is : list ≡ found t n (length values) (length (start .args .c .now)) laid into upper grown j below next nx =
     take-all (length out - walk .result) (drop (walk .result) out) (omega (arith, length-drop (walk .result) out)) ∙ walk .ensures .0 .1 in
     let call = c .before .before .before .before .before .before .before .before .apply-reach in
-    let did : ReachProducts (planAt t unit-starts d-starts places) (start .args .l-starts .now) j (found t n (length values) (length (start .args .c .now)) laid into upper grown j below next nx) next values diag d (start .args .c .now) (start .args .count) (call .last .1 .1 .1 .1 .1 .1 .1 .1 .1 .0) (call .last .1 .1 .1 .1 .1 .1 .1 .1 .1 .1 .1 .1 .1 .1 .1 .0) (call .result) =
-    subst (λ (l : List ℕ). ReachProducts (planAt t unit-starts d-starts places) (start .args .l-starts .now) j l next values diag d (start .args .c .now) (start .args .count) (call .last .1 .1 .1 .1 .1 .1 .1 .1 .1 .0) (call .last .1 .1 .1 .1 .1 .1 .1 .1 .1 .1 .1 .1 .1 .1 .1 .0) (call .result)) is (call .ensures) in
+    let did : ReachProducts (planAt t unit-starts d-starts places) (start .args .l-starts .now) j (found t n (length values) (length (start .args .c .now)) laid into upper grown j below next nx) next values diag d cache (start .args .c .now) (start .args .count) (call .last .1 .1 .1 .1 .1 .1 .1 .1 .1 .0) (call .last .1 .1 .1 .1 .1 .1 .1 .1 .1 .1 .1 .1 .1 .1 .1 .1 .0) (call .result) =
+    subst (λ (l : List ℕ). ReachProducts (planAt t unit-starts d-starts places) (start .args .l-starts .now) j l next values diag d cache (start .args .c .now) (start .args .count) (call .last .1 .1 .1 .1 .1 .1 .1 .1 .1 .0) (call .last .1 .1 .1 .1 .1 .1 .1 .1 .1 .1 .1 .1 .1 .1 .1 .1 .0) (call .result)) is (call .ensures) in
     let short : length (found t n (length values) (length (start .args .c .now)) laid into upper grown j below next nx) ≤ n =
     omega (arith, sym (ap length (walk .ensures .0 .1)), length-drop (walk .result) out, walk .kept .1 .1 .1 .1 .1 .0, start .pre .1 .1 .1 .1 .1 .0 .1) in
     let all =
@@ -131,7 +135,7 @@ returns c =
         works t n (length values) (length (start .args .c .now)) laid into upper grown j below next nx unit-starts d-starts places
             (length diag) (length d) (length (start .args .qj .now)) (length (start .args .qi .now))
             (start .pre .1 .0) (start .pre .1 .1 .0 .0) (start .pre .1 .1 .0 .2) (start .pre .1 .1 .1 .1 .1 .1 .0) (start .pre .1 .1 .1 .1 .1 .1 .1)
-            values diag d (start .args .c .now) (call .last .1 .1 .1 .1 .1 .1 .1 .1 .1 .1 .1 .1 .1 .1 .1 .0) (start .args .count) (call .result) (call .last .1 .1 .1 .1 .1 .1 .1 .1 .1 .0) did,
+            values diag d cache (start .args .c .now) (call .last .1 .1 .1 .1 .1 .1 .1 .1 .1 .1 .1 .1 .1 .1 .1 .1 .0) (start .args .count) (call .result) (call .last .1 .1 .1 .1 .1 .1 .1 .1 .1 .0) did,
       ),
     )
 
