@@ -85,6 +85,24 @@ uint32_t beyqaloosh_factorize(const uint32_t *dims, size_t dims_len, const uint3
                               size_t unit_starts_len, uint32_t *d_starts, size_t d_starts_len, uint32_t *places, size_t places_len,
                               uint64_t told[3], double value[1]);
 
+/* The same factorization with one more buffer lent, cache: each block of L, times the unit factor of its column, is kept there as far as
+   there is room, so that it is worked out once. Its need is L's numbers, but no more than 16 times one more than the entries and numbers
+   that are handed in (dims, starts, rows, values, perm and late together). It is buffer 21, and zeros afterwards as far as it is needed,
+   but where 1 to 10 refuse, or 11 for a need that is known without the plan. crates/factorize/src/lib.rt says more. */
+uint32_t beyqaloosh_factorize_with_cache(const uint32_t *dims, size_t dims_len, const uint32_t *starts, size_t starts_len,
+                                         const uint32_t *rows, size_t rows_len, const double *values, size_t values_len,
+                                         const uint32_t *perm, size_t perm_len, const uint32_t *late, size_t late_len, double tol,
+                                         uint32_t *order, size_t order_len, uint32_t *parents, size_t parents_len,
+                                         uint32_t *l_starts, size_t l_starts_len, uint32_t *l_rows, size_t l_rows_len,
+                                         uint32_t *l_offsets, size_t l_offsets_len, double *l_values, size_t l_values_len,
+                                         double *diag, size_t diag_len, double *d, size_t d_len, double *column, size_t column_len,
+                                         uint32_t *inverse, size_t inverse_len, uint32_t *sizes, size_t sizes_len, uint32_t *count,
+                                         size_t count_len, uint32_t *heads, size_t heads_len, uint32_t *into, size_t into_len,
+                                         uint32_t *stamps, size_t stamps_len, uint32_t *table, size_t table_len, uint32_t *upper,
+                                         size_t upper_len, uint32_t *bodies, size_t bodies_len, uint32_t *unit_starts,
+                                         size_t unit_starts_len, uint32_t *d_starts, size_t d_starts_len, uint32_t *places,
+                                         size_t places_len, double *cache, size_t cache_len, uint64_t told[3], double value[1]);
+
 /* The solve of a night with its factor: x, the right side in old order, becomes the solution. Accepted, told has zeros; refused,
    the place, and 2 where it is in the factor's starts or rows, 1 where it is in its parents, or the buffer and its need, or of a
    wrong column the table, the column and what is wrong, and zeros after. A factor's lists have no dimensions: that dims are those it was
@@ -117,6 +135,10 @@ uint32_t beyqaloosh_plan_needs(size_t blocks, size_t stored, uint32_t l_blocks, 
 
 uint32_t beyqaloosh_factorize_needs(const uint32_t *dims, size_t dims_len, size_t stored, uint32_t l_blocks, uint32_t l_numbers,
                                     uint64_t needs[21], uint64_t told[3]);
+
+/* numbers is how many A's values are, values_len of the call. The last is the cache. */
+uint32_t beyqaloosh_factorize_with_cache_needs(const uint32_t *dims, size_t dims_len, size_t stored, uint32_t numbers, uint32_t l_blocks,
+                                               uint32_t l_numbers, uint64_t needs[22], uint64_t told[3]);
 
 /* The first is x, which must have exactly that length. */
 uint32_t beyqaloosh_solve_inplace_needs(const uint32_t *dims, size_t dims_len, uint64_t needs[5], uint64_t told[3]);

@@ -31,12 +31,16 @@ NONE = 0xFFFFFFFF
 # 'float', what is told an array such as 'u64[3]'. tests/exports.py holds this to the header.
 _TABLES = "dims:u32 starts:u32 rows:u32"
 _SCRATCH = "inverse:U32 sizes:U32 count:U32 heads:U32 into:U32 stamps:U32 table:U32 upper:U32"
+_FACTOR = (
+    f"{_TABLES} values:f64 perm:u32 late:u32 tol:float order:U32 parents:U32 l_starts:U32 l_rows:U32 l_offsets:U32 l_values:F64 diag:F64 d:F64"
+    f" column:F64 {_SCRATCH} bodies:U32 unit_starts:U32 d_starts:U32 places:U32"
+)
 CALLS = {
     "elimination_tree": "n:size starts:u32 rows:u32 parents:U32 ancestors:U32 told:u64[3]",
     "reach": "starts:u32 rows:u32 parents:u32 j:size mark:word stamps:U32 found:U32 told:u64[3]",
     "plan": f"{_TABLES} perm:u32 late:u32 order:U32 parents:U32 l_starts:U32 l_rows:U32 {_SCRATCH} told:u64[3]",
-    "factorize": f"{_TABLES} values:f64 perm:u32 late:u32 tol:float order:U32 parents:U32 l_starts:U32 l_rows:U32 l_offsets:U32"
-    f" l_values:F64 diag:F64 d:F64 column:F64 {_SCRATCH} bodies:U32 unit_starts:U32 d_starts:U32 places:U32 told:u64[3] value:f64[1]",
+    "factorize": f"{_FACTOR} told:u64[3] value:f64[1]",
+    "factorize_with_cache": f"{_FACTOR} cache:F64 told:u64[3] value:f64[1]",
     "solve_inplace": f"{_TABLES} perm:u32 late:u32 order:u32 parents:u32 l_starts:u32 l_rows:u32 l_offsets:u32 l_values:f64 diag:f64"
     " d:f64 x:F64 y:F64 scalar_perm:U32 sizes:U32 scalar_starts:U32 told:u64[3]",
     "marks": "dims:u32 order:u32 d:f64 tol:float marks:U8 told:u64[3]",
@@ -45,6 +49,7 @@ CALLS = {
     "reach_needs": "blocks:size needs:u64[2] told:u64[3]",
     "plan_needs": "blocks:size stored:size l_blocks:word needs:u64[12] told:u64[3]",
     "factorize_needs": "dims:u32 stored:size l_blocks:word l_numbers:word needs:u64[21] told:u64[3]",
+    "factorize_with_cache_needs": "dims:u32 stored:size numbers:word l_blocks:word l_numbers:word needs:u64[22] told:u64[3]",
     "solve_inplace_needs": "dims:u32 needs:u64[5] told:u64[3]",
     "marks_needs": "dims:u32 needs:u64[1] told:u64[3]",
     # on one block; these tell nothing but the number
@@ -344,19 +349,21 @@ class System:
         return {"dims": self.dims, "starts": self.starts, "rows": self.rows, "perm": self.perm, "late": self.late}
 
     def _shape(self):
-        return {"blocks": len(self.dims), "dims": self.dims, "stored": len(self.rows)}
+        return {"blocks": len(self.dims), "dims": self.dims, "stored": len(self.rows), "numbers": min(len(self.values), NONE)}
 
     def plan(self):
         """The plan, which reads no numbers and no tolerance."""
         lent = _lend("plan", **self._shape())
         return Plan(lent, self._until_met("plan", lent))
 
-    def factorize(self):
-        """The factor. Refused by 13 or 14, as by any number, there is none."""
-        lent = _lend("factorize", **self._shape())
+    def factorize(self, cache=True):
+        """The factor. Refused by 13 or 14, as by any number, there is none. The call is lent a cache, of as many numbers as L has at most, so
+        that each product of a block of L with the unit factor of its column is worked out once; without it the factor is the same."""
+        name = "factorize_with_cache" if cache else "factorize"
+        lent = _lend(name, **self._shape())
         numbers = {"values": self.values, "tol": self.tolerance}
         try:
-            told = self._until_met("factorize", lent, **numbers)
+            told = self._until_met(name, lent, **numbers)
         except Error as why:
             if why.number == 7 and self.unfit is not None:
                 row, column = self.unfit
@@ -366,15 +373,15 @@ class System:
         return Factor(self, lent, told)
 
     def _until_met(self, name, lent, **more):
-        """The call again for each of L's lists whose need only the plan shows."""
+        """The call again for each of L's lists and the cache, whose needs only the plan shows."""
         while True:
             try:
                 return call(name, **self._tables(), **more, **lent)["told"]
             except Error as why:
-                if why.number != 11 or why.carries["name"] not in ("l_rows", "l_offsets", "l_values"):
+                short = why.carries.get("name")
+                if why.number != 11 or short not in ("l_rows", "l_offsets", "l_values", "cache"):
                     raise
-                short = why.carries["name"]
-                lent[short] = _zeros("f64" if short == "l_values" else "u32", why.carries["need"])
+                lent[short] = _zeros("f64" if short in ("l_values", "cache") else "u32", why.carries["need"])
 
 
 class Builder:

@@ -1,6 +1,6 @@
 /* The factorization from C: document 01's two-block sheet, P1 to P4 with blocks of several dimensions, the bits of NaN after 13 and
-   14 at every row of every block, every lent buffer one short, and wrong tables. What is lent stands between guards, which no call
-   may touch. */
+   14 at every row of every block, every lent buffer one short, and wrong tables. Each is called without a cache and with one, which leaves
+   the same. What is lent stands between guards, which no call may touch. */
 #include <inttypes.h>
 #include <math.h>
 #include <stdint.h>
@@ -11,7 +11,7 @@
 
 enum {
     ORDER, PARENTS, L_STARTS, L_ROWS, L_OFFSETS, L_VALUES, DIAG, D, COLUMN, INVERSE, SIZES, COUNT, HEADS, INTO, STAMPS, TABLE, UPPER,
-    BODIES, UNIT_STARTS, D_STARTS, PLACES, BUFFERS,
+    BODIES, UNIT_STARTS, D_STARTS, PLACES, CACHE, BUFFERS,
     BLOCKS = 4, MOST = 8, ROOM = 96, SCALARS = 32
 };
 static const uint64_t SPOILT = UINT64_C(0x7FF8000000000000), GUARD = UINT64_C(777777777);
@@ -45,10 +45,12 @@ static uint32_t words[BUFFERS][ROOM];
 static double floats[BUFFERS][ROOM];
 static uint64_t told[3];
 static double value[1];
+/* How many places each buffer has beyond its need. */
+static size_t spare;
 
 static int of_floats(int which)
 {
-    return which == L_VALUES || which == DIAG || which == D || which == COLUMN;
+    return which == L_VALUES || which == DIAG || which == D || which == COLUMN || which == CACHE;
 }
 
 static void check(int holds, const char *night, int which, const char *what)
@@ -82,6 +84,7 @@ static void offsets(const struct night *a, uint32_t ends[MOST + 1])
             ends[p + 1] = ends[p] + dim(a, a->l_rows[p]) * dim(a, k);
 }
 
+/* A cache's need is L's numbers where these are few beside what is handed in, as they are here; tests/needs.c has a night where they are not. */
 static size_t need(const struct night *a, int which)
 {
     size_t squares = 0, scalars = 0, widest = 0, blocks = a->l_starts[a->n];
@@ -96,7 +99,7 @@ static size_t need(const struct night *a, int which)
     case L_STARTS: case HEADS: case INTO: case UNIT_STARTS: case D_STARTS: return a->n + 1;
     case L_ROWS: return blocks;
     case L_OFFSETS: return blocks + 1;
-    case L_VALUES: return ends[blocks];
+    case L_VALUES: case CACHE: return ends[blocks];
     case DIAG: return squares;
     case D: return scalars;
     case COLUMN: return scalars * widest;
@@ -149,8 +152,16 @@ static void fill_unit(const struct night *a, double full[SCALARS][SCALARS])
         full[i][i] = 1.0;
 }
 
-/* Each buffer has its need at 1 of its room, less one place where it is the short one. */
-static uint32_t call(const struct night *a, const uint32_t *starts, double tol, int short_one)
+#define WORDS(b) words[b] + 1, len[b]
+#define FLOATS(b) floats[b] + 1, len[b]
+#define HANDED a->dims, a->n, starts, a->n + 1, a->rows, a->m, values, values_len, a->perm, a->n, LATE, a->n, tol
+#define LENT                                                                                                                          \
+    WORDS(ORDER), WORDS(PARENTS), WORDS(L_STARTS), WORDS(L_ROWS), WORDS(L_OFFSETS), FLOATS(L_VALUES), FLOATS(DIAG), FLOATS(D),           \
+        FLOATS(COLUMN), WORDS(INVERSE), WORDS(SIZES), WORDS(COUNT), WORDS(HEADS), WORDS(INTO), WORDS(STAMPS), WORDS(TABLE), WORDS(UPPER), \
+        WORDS(BODIES), WORDS(UNIT_STARTS), WORDS(D_STARTS), WORDS(PLACES)
+
+/* Each buffer has its need and what is spare at 1 of its room, less one place of the need where it is the short one. */
+static uint32_t lend(const struct night *a, const uint32_t *starts, double tol, int short_one, int cached)
 {
     size_t len[BUFFERS];
     for (int b = 0; b < BUFFERS; b++) {
@@ -158,19 +169,36 @@ static uint32_t call(const struct night *a, const uint32_t *starts, double tol, 
             words[b][i] = (uint32_t)GUARD;
             memcpy(&floats[b][i], &GUARD, sizeof GUARD);
         }
-        len[b] = need(a, b) - (b == short_one);
+        len[b] = b == short_one ? need(a, b) - 1 : need(a, b) + spare;
     }
     for (size_t i = 0; i < 3; i++)
         told[i] = GUARD;
     value[0] = 7.25;
-    return beyqaloosh_factorize(
-        a->dims, a->n, starts, a->n + 1, a->rows, a->m, values, values_len, a->perm, a->n, LATE, a->n, tol,
-        words[ORDER] + 1, len[ORDER], words[PARENTS] + 1, len[PARENTS], words[L_STARTS] + 1, len[L_STARTS],
-        words[L_ROWS] + 1, len[L_ROWS], words[L_OFFSETS] + 1, len[L_OFFSETS], floats[L_VALUES] + 1, len[L_VALUES],
-        floats[DIAG] + 1, len[DIAG], floats[D] + 1, len[D], floats[COLUMN] + 1, len[COLUMN], words[INVERSE] + 1, len[INVERSE],
-        words[SIZES] + 1, len[SIZES], words[COUNT] + 1, len[COUNT], words[HEADS] + 1, len[HEADS], words[INTO] + 1, len[INTO],
-        words[STAMPS] + 1, len[STAMPS], words[TABLE] + 1, len[TABLE], words[UPPER] + 1, len[UPPER], words[BODIES] + 1, len[BODIES],
-        words[UNIT_STARTS] + 1, len[UNIT_STARTS], words[D_STARTS] + 1, len[D_STARTS], words[PLACES] + 1, len[PLACES], told, value);
+    return cached ? beyqaloosh_factorize_with_cache(HANDED, LENT, FLOATS(CACHE), told, value)
+                  : beyqaloosh_factorize(HANDED, LENT, told, value);
+}
+
+/* What the call with a cache answers; without one it answers and leaves the same. */
+static uint32_t call(const struct night *a, const uint32_t *starts, double tol, int short_one)
+{
+    static uint32_t plain_words[BUFFERS][ROOM];
+    static double plain_floats[BUFFERS][ROOM];
+    uint64_t plain_told[3], plain_value;
+    uint32_t plain, answer;
+    if (short_one == CACHE)
+        return lend(a, starts, tol, short_one, 1);
+    plain = lend(a, starts, tol, short_one, 0);
+    memcpy(plain_words, words, sizeof words);
+    memcpy(plain_floats, floats, sizeof floats);
+    memcpy(plain_told, told, sizeof told);
+    plain_value = bits(value[0]);
+    answer = lend(a, starts, tol, short_one, 1);
+    check(answer == plain && memcmp(told, plain_told, sizeof told) == 0 && bits(value[0]) == plain_value, a->name, -1,
+          "another answer with a cache");
+    for (int b = 0; b < CACHE; b++)
+        check(memcmp(words[b], plain_words[b], sizeof words[b]) == 0 && memcmp(floats[b], plain_floats[b], sizeof floats[b]) == 0,
+              a->name, b, "another content with a cache");
+    return answer;
 }
 
 static uint64_t at(int which, size_t i)
@@ -326,8 +354,8 @@ static void shorts(const struct night *a)
         check(told[0] == (uint64_t)s && told[1] == need(a, s) && told[2] == 0, a->name, s, "11 with another need");
         check(bits(value[0]) == 0, a->name, s, "a float where there is none");
         for (int b = 0; b < BUFFERS; b++) {
-            int shown = s == L_ROWS || s == L_OFFSETS || s == L_VALUES;
-            holds_all(a->name, b, shown && b >= COLUMN ? 0 : GUARD, need(a, b), "after 11");
+            int shown = s == L_ROWS || s == L_OFFSETS || s == L_VALUES || s == CACHE;
+            holds_all(a->name, b, shown && b >= COLUMN ? 0 : GUARD, need(a, b) - (b == s), "after 11");
         }
     }
 }
@@ -357,6 +385,10 @@ int main(void)
         const struct night *a = &NIGHTS[k];
         fill(a, full);
         take_values(a, full);
+        spare = 2;
+        accepted(a);
+        shorts(a);
+        spare = 0;
         accepted(a);
         multiplies(a, full);
         shorts(a);

@@ -145,6 +145,22 @@ class Nights(unittest.TestCase):
         night = System(**TWO_BLOCKS | {"tolerance": -0.0})
         self.assertEqual(night.factorize().solve(night, [8, 8]).labels(), [1.5, 1.0])
 
+    def test_with_a_cache_and_without(self):
+        # a hub of one scalar, eliminated first, that reaches 4 blocks of 16: L has more numbers than its cache needs
+        hub = Builder(tolerance=1e-12)
+        first = hub.block(1)
+        hub.store(first, first, [-1])
+        for _ in range(4):
+            hub.store(hub.block(16), first, [0.5] * 16)
+        hub = hub.build()
+        needs = beyqaloosh.call("factorize_with_cache_needs", **hub._shape(), l_blocks=10, l_numbers=1600)["needs"]
+        self.assertEqual((needs[5], needs[21]), (1600, 1472))
+        for night in (hub, night_of("storm.sheet")[0]):
+            cached, plain = night.factorize(), night.factorize(cache=False)
+            self.assertEqual(cached.products, plain.products)
+            for name, numbers in cached._lists.items():
+                self.assertEqual(numbers.tobytes(), plain._lists[name].tobytes(), name)
+
     def test_4096_blocks(self):
         night = links(4096, [(k + 1, k) for k in range(4095)])
         factor = night.factorize()
@@ -459,6 +475,7 @@ class Refusals(unittest.TestCase):
             ("reach", tree._tables | {"j": 3, "mark": 0}, beyqaloosh._lend("reach", blocks=4)),
             ("plan", tables, lend("plan", l_rows=of_l["l_rows"])),
             ("factorize", tables | numbers, lend("factorize", **of_l)),
+            ("factorize_with_cache", tables | numbers, lend("factorize_with_cache", **of_l, cache=factor.values[:])),
             ("solve_inplace", tables | factor._lists, lend("solve_inplace", x=x)),
             ("marks", marks, lend("marks")),
         ]:
@@ -522,6 +539,7 @@ class Refusals(unittest.TestCase):
         self.refused(lambda: beyqaloosh.call("reach_needs", blocks=4097), 1, {})
         self.refused(lambda: beyqaloosh.call("plan_needs", blocks=4096, stored=65537, **of_l), 4, {})
         self.refused(lambda: beyqaloosh.call("factorize_needs", dims=dims, stored=65537, **of_l), 2, {"place": 1})
+        self.refused(lambda: beyqaloosh.call("factorize_with_cache_needs", dims=dims, stored=1, numbers=1, **of_l), 2, {"place": 1})
         self.refused(lambda: beyqaloosh.call("marks_needs", dims=dims), 2, {"place": 1})
         self.assertEqual(beyqaloosh._needs("marks", dims=dims), [0])
 

@@ -71,9 +71,13 @@ class Examples(unittest.TestCase):
 
 class Promise(unittest.TestCase):
     def test_the_text_of_factorize_is_that_of_the_contract(self):
-        sources = [ROOT / "crates" / "factorize" / "src" / "lib.rt", ROOT / "crates" / "factor_core" / "specs" / "Factorize.antt"]
+        specs = ROOT / "crates" / "factor_core" / "specs"
+        self.holds("the text", ROOT / "crates" / "factorize" / "src" / "lib.rt", specs / "Factorize.antt")
+        self.holds("the text of the cache", specs / "Cache.antt")
+
+    def holds(self, head, *sources):
         contract = " ".join(" ".join(path.read_text() for path in sources).split())
-        table = README.split("| the text | in words |\n|---|---|\n")[1].split("\n\n")[0]
+        table = README.split(f"| {head} | in words |\n|---|---|\n")[1].split("\n\n")[0]
         rows = re.findall(r"^\| `(.*?)` \| (.*) \|$", table, re.M)
         self.assertEqual(len(rows), len(table.splitlines()))
         for text, _ in rows:

@@ -53,6 +53,14 @@ exported! {
         heads: &mut [u32], into: &mut [u32], stamps: &mut [u32], table: &mut [u32], upper: &mut [u32], bodies: &mut [u32],
         unit_starts: &mut [u32], d_starts: &mut [u32], places: &mut [u32], told: &mut [u64; 3], value: &mut [f64; 1],
     ) -> u32;
+    fn beyqaloosh_factorize_with_cache(
+        dims: &[u32], starts: &[u32], rows: &[u32], values: &[f64], perm: &[u32], late: &[u32], tol: f64, order: &mut [u32],
+        parents: &mut [u32], l_starts: &mut [u32], l_rows: &mut [u32], l_offsets: &mut [u32], l_values: &mut [f64],
+        diag: &mut [f64], d: &mut [f64], column: &mut [f64], inverse: &mut [u32], sizes: &mut [u32], count: &mut [u32],
+        heads: &mut [u32], into: &mut [u32], stamps: &mut [u32], table: &mut [u32], upper: &mut [u32], bodies: &mut [u32],
+        unit_starts: &mut [u32], d_starts: &mut [u32], places: &mut [u32], cache: &mut [f64], told: &mut [u64; 3],
+        value: &mut [f64; 1],
+    ) -> u32;
     fn beyqaloosh_solve_inplace(
         dims: &[u32], starts: &[u32], rows: &[u32], perm: &[u32], late: &[u32], order: &[u32], parents: &[u32], l_starts: &[u32],
         l_rows: &[u32], l_offsets: &[u32], l_values: &[f64], diag: &[f64], d: &[f64], x: &mut [f64], y: &mut [f64],
@@ -74,6 +82,9 @@ exported! {
     fn beyqaloosh_plan_needs(blocks: usize, stored: usize, l_blocks: u32, needs: &mut [u64; 12], told: &mut [u64; 3]) -> u32;
     fn beyqaloosh_factorize_needs(
         dims: &[u32], stored: usize, l_blocks: u32, l_numbers: u32, needs: &mut [u64; 21], told: &mut [u64; 3],
+    ) -> u32;
+    fn beyqaloosh_factorize_with_cache_needs(
+        dims: &[u32], stored: usize, numbers: u32, l_blocks: u32, l_numbers: u32, needs: &mut [u64; 22], told: &mut [u64; 3],
     ) -> u32;
     fn beyqaloosh_solve_inplace_needs(dims: &[u32], needs: &mut [u64; 5], told: &mut [u64; 3]) -> u32;
     fn beyqaloosh_marks_needs(dims: &[u32], needs: &mut [u64; 1], told: &mut [u64; 3]) -> u32;

@@ -109,9 +109,9 @@ const REACH_LENT: [&str; 2] = ["stamps", "found"];
 const PLAN_LENT: [&str; 12] =
     ["order", "parents", "l_starts", "l_rows", "inverse", "sizes", "count", "heads", "into", "stamps", "table", "upper"];
 #[rustfmt::skip]
-const FACTOR_LENT: [&str; 21] = [
+const FACTOR_LENT: [&str; 22] = [
     "order", "parents", "l_starts", "l_rows", "l_offsets", "l_values", "diag", "d", "column", "inverse", "sizes", "count", "heads",
-    "into", "stamps", "table", "upper", "bodies", "unit_starts", "d_starts", "places",
+    "into", "stamps", "table", "upper", "bodies", "unit_starts", "d_starts", "places", "cache",
 ];
 const SOLVE_LENT: [&str; 5] = ["x", "y", "scalar_perm", "sizes", "scalar_starts"];
 #[rustfmt::skip]
@@ -170,16 +170,40 @@ pub fn plan(a: Tables, lent: PlanLent) -> Result<Counts, Error> {
 
 /// The factorization of a night: `factorize::factorize` of the proved library, whose text says what each buffer holds and needs.
 pub fn factorize(a: Tables, values: &[f64], tol: f64, lent: FactorLent) -> Result<Counts, Error> {
+    factorize_by(a, values, tol, lent, None)
+}
+
+/// The same with a cache: `factorize::factorize_with_cache` of the proved library. The answer and what is left in every other buffer are
+/// those of [`factorize`].
+#[rustfmt::skip]
+pub fn factorize_with_cache(
+    a: Tables, values: &[f64], tol: f64, lent: FactorLent, cache: &mut [f64],
+) -> Result<Counts, Error> {
+    factorize_by(a, values, tol, lent, Some(cache))
+}
+
+/// With the cache that is lent, if any.
+#[rustfmt::skip]
+fn factorize_by(
+    a: Tables, values: &[f64], tol: f64, lent: FactorLent, cache: Option<&mut [f64]>,
+) -> Result<Counts, Error> {
     let Tables { dims, starts, rows, perm, late } = a;
     let FactorLent { order, parents, l_starts, l_rows, l_offsets, l_values, diag, d, column, .. } = lent;
     let FactorLent { scratch, bodies, unit_starts, d_starts, places, .. } = lent;
     let PlanScratch { inverse, sizes, count, heads, into, stamps, table, upper } = scratch;
     let (mut told, mut value) = ([0; 3], [0.0]);
     #[rustfmt::skip]
-    let number = abi::beyqaloosh_factorize(
-        dims, starts, rows, values, perm, late, tol, order, parents, l_starts, l_rows, l_offsets, l_values, diag, d, column,
-        inverse, sizes, count, heads, into, stamps, table, upper, bodies, unit_starts, d_starts, places, &mut told, &mut value,
-    );
+    let number = match cache {
+        None => abi::beyqaloosh_factorize(
+            dims, starts, rows, values, perm, late, tol, order, parents, l_starts, l_rows, l_offsets, l_values, diag, d, column,
+            inverse, sizes, count, heads, into, stamps, table, upper, bodies, unit_starts, d_starts, places, &mut told, &mut value,
+        ),
+        Some(cache) => abi::beyqaloosh_factorize_with_cache(
+            dims, starts, rows, values, perm, late, tol, order, parents, l_starts, l_rows, l_offsets, l_values, diag, d, column,
+            inverse, sizes, count, heads, into, stamps, table, upper, bodies, unit_starts, d_starts, places, cache, &mut told,
+            &mut value,
+        ),
+    };
     // after 13 and 14 the order is there
     let [block, place] = [told[0] as usize, told[1] as usize];
     match number {
@@ -242,6 +266,14 @@ pub fn plan_needs(blocks: usize, stored: usize, l_blocks: u32) -> Result<[usize;
 /// What the buffers of [`factorize`] need, in its order, with L's blocks and numbers as a plan has told them.
 pub fn factorize_needs(dims: &[u32], stored: usize, l_blocks: u32, l_numbers: u32) -> Result<[usize; 21], Error> {
     needed(|needs, told| abi::beyqaloosh_factorize_needs(dims, stored, l_blocks, l_numbers, needs, told))
+}
+
+/// What the buffers of [`factorize_with_cache`] need, the cache last, where A's values are so many numbers.
+#[rustfmt::skip]
+pub fn factorize_with_cache_needs(
+    dims: &[u32], stored: usize, numbers: u32, l_blocks: u32, l_numbers: u32,
+) -> Result<[usize; 22], Error> {
+    needed(|needs, told| abi::beyqaloosh_factorize_with_cache_needs(dims, stored, numbers, l_blocks, l_numbers, needs, told))
 }
 
 /// What the buffers of [`solve_inplace`] need, in its order; of x it is the exact length.

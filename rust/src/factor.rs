@@ -4,7 +4,7 @@ use crate::error::Error;
 use crate::needs;
 use crate::plan::Plan;
 use crate::solution::{Mark, Solution};
-use crate::system::System;
+use crate::system::{FlatTables, System};
 use crate::workspace::{grow, Workspace};
 
 /// L D Lᵀ of a system, by new numbers, bodies column-major. It solves for the system that it was made of; where its tables are not those
@@ -64,7 +64,7 @@ impl Factor {
         let were = self.lengths();
         self.grow(needs);
         let mut answer = self.factorize_into(system, workspace);
-        // what only the plan shows: L's blocks and one more, then L's numbers
+        // what only the plan shows: L's blocks and one more, then L's numbers, then the cache
         while let Err(Error::Short { name, need, .. }) = answer {
             match name {
                 "l_rows" => grow(&mut self.plan.rows, need),
@@ -72,7 +72,11 @@ impl Factor {
                     grow(&mut self.offsets, need);
                     grow(&mut self.plan.rows, need - 1);
                 }
-                "l_values" => grow(&mut self.values, need),
+                "l_values" => {
+                    grow(&mut self.values, need);
+                    workspace.for_cache(needs::cache(system.tables(), need));
+                }
+                "cache" => workspace.for_cache(need),
                 _ => break,
             }
             answer = self.factorize_into(system, workspace);
@@ -93,6 +97,7 @@ impl Factor {
     }
 
     fn factorize_into(&mut self, system: &System, workspace: &mut Workspace) -> Result<calls::Counts, Error> {
+        let Workspace { plan, bodies, unit_starts, d_starts, places, column, cache, uncached, .. } = workspace;
         let lent = FactorLent {
             order: &mut self.plan.order,
             parents: &mut self.plan.parents,
@@ -102,14 +107,19 @@ impl Factor {
             l_values: &mut self.values,
             diag: &mut self.diag,
             d: &mut self.d,
-            column: &mut workspace.column,
-            scratch: workspace.plan.lend(),
-            bodies: &mut workspace.bodies,
-            unit_starts: &mut workspace.unit_starts,
-            d_starts: &mut workspace.d_starts,
-            places: &mut workspace.places,
+            column,
+            scratch: plan.lend(),
+            bodies,
+            unit_starts,
+            d_starts,
+            places,
         };
-        calls::factorize(system.lent(), &system.tables().values, system.tables().tolerance, lent)
+        let (tables, FlatTables { values, tolerance, .. }) = (system.lent(), system.tables());
+        if *uncached {
+            calls::factorize(tables, values, *tolerance, lent)
+        } else {
+            calls::factorize_with_cache(tables, values, *tolerance, lent, cache)
+        }
     }
 
     /// As long as is known without the plan.

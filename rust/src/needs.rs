@@ -21,6 +21,13 @@ pub(crate) fn factorize(a: &FlatTables) -> [usize; 21] {
     calls::factorize_needs(&a.dims, a.rows.len(), 0, 0).unwrap_or_default()
 }
 
+/// What the cache of a factorization needs where L has so many numbers.
+pub(crate) fn cache(a: &FlatTables, l_numbers: usize) -> usize {
+    let numbers = a.values.len().try_into().unwrap_or(u32::MAX);
+    let needs = calls::factorize_with_cache_needs(&a.dims, a.rows.len(), numbers, 0, l_numbers as u32);
+    needs.map_or(0, |[.., cache]| cache)
+}
+
 pub(crate) fn solve_inplace(a: &FlatTables) -> [usize; 5] {
     calls::solve_inplace_needs(&a.dims).unwrap_or_default()
 }

@@ -29,7 +29,9 @@ impl PlanSpace {
 }
 
 /// The scratch of plans, factorizations and solves. It grows where a call needs more and never shrinks, so a call on a system no larger
-/// than one before allocates nothing.
+/// than one before allocates nothing. A factorization is lent a cache too, of as many numbers as L has at most, so that each product of a block
+/// of L with the unit factor of its column is worked out once; [`without_cache`](Workspace::without_cache) spares that memory. The factor is
+/// the same, number by number.
 #[derive(Clone, Debug, Default)]
 pub struct Workspace {
     pub(crate) plan: PlanSpace,
@@ -41,12 +43,20 @@ pub struct Workspace {
     pub(crate) scalar_starts: Vec<u32>,
     pub(crate) column: Vec<f64>,
     pub(crate) y: Vec<f64>,
+    pub(crate) cache: Vec<f64>,
+    /// Factorizations are lent no cache.
+    pub(crate) uncached: bool,
 }
 
 impl Workspace {
     /// No scratch yet.
     pub fn new() -> Self {
         Self::default()
+    }
+
+    /// No scratch yet, and never a cache.
+    pub fn without_cache() -> Self {
+        Self { uncached: true, ..Self::default() }
     }
 
     // the needs of each call, in its order
@@ -63,6 +73,12 @@ impl Workspace {
         grow(&mut self.unit_starts, unit_starts);
         grow(&mut self.d_starts, d_starts);
         grow(&mut self.places, places);
+    }
+
+    pub(crate) fn for_cache(&mut self, cache: usize) {
+        if !self.uncached {
+            grow(&mut self.cache, cache);
+        }
     }
 
     pub(crate) fn for_solve(&mut self, [_, y, scalar_perm, sizes, scalar_starts]: [usize; 5]) {

@@ -1,6 +1,6 @@
 //! Accepted nights: known bits, plans, marks and labels, no blocks and 4,096.
 mod common;
-use beyqaloosh::{Counts, Error, FlatTables, Mark, System};
+use beyqaloosh::{Counts, Error, Factor, FlatTables, Mark, System, Workspace};
 use common::{answer, links, sheet, system, two_blocks, README};
 
 #[test]
@@ -160,6 +160,13 @@ fn a_night_at_full_size() {
     let products: u64 = (0..4096).map(|k| plan.column(k).len() as u64).map(|c| c * (c + 1) / 2).sum();
     assert_eq!((plan.counts().products, plan.counts().stored), (products, plan.rows().len()));
     assert!((0..4032).all(|k| plan.column(k).last() == Some(&(k as u32 + 64))));
+
+    // without a cache the same, bit by bit
+    let plain = system.factorize_in(&mut Workspace::without_cache()).unwrap();
+    let bits = |numbers: &[f64]| numbers.iter().map(|number| number.to_bits()).collect::<Vec<_>>();
+    for numbers in [Factor::values, Factor::diag, Factor::d] {
+        assert!(bits(numbers(&plain)) == bits(numbers(&factor)));
+    }
 
     let right: Vec<f64> = (0..system.scalars()).map(|k| (k % 11) as f64 - 5.0).collect();
     let solution = factor.solve(&system, &right).unwrap();

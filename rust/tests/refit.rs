@@ -1,6 +1,6 @@
 //! A factor and its solutions in memory that is there: nothing is allocated, and a refusal leaves the factor as 01 says.
 mod common;
-use beyqaloosh::{Error, Factor, Mark, Workspace};
+use beyqaloosh::{calls, Error, Factor, Mark, System, Workspace};
 use common::{links, sheet, system};
 use std::alloc::{GlobalAlloc, Layout, System as Heap};
 use std::cell::Cell;
@@ -62,6 +62,41 @@ fn a_refit_allocates_nothing() {
     assert_eq!(both, [1.0, 1.0]);
     assert_eq!(factor, first);
     assert_eq!(marks.iter().position(|&mark| mark == Mark::Silent), Some(9));
+}
+
+#[test]
+fn with_a_cache_and_without() {
+    let (night, _) = sheet("storm.sheet");
+    let (mut cached, mut plain) = (Workspace::new(), Workspace::without_cache());
+    let mut factor = night.factorize_in(&mut cached).unwrap();
+    assert_eq!(factor, night.factorize_in(&mut plain).unwrap());
+    // lists that are long enough, with no cache and with one that is too short yet
+    factor.refit(&night, &mut plain).unwrap();
+    factor.refit(&night, &mut Workspace::new()).unwrap();
+    assert_eq!(factor, night.factorize().unwrap());
+
+    let mut spoilt = night.clone();
+    spoilt.body_mut(3, 3).unwrap()[0] = f64::INFINITY;
+    let why = factor.refit(&spoilt, &mut cached).unwrap_err();
+    assert_eq!((why.number(), spoilt.factorize_in(&mut plain)), (13, Err(why)));
+}
+
+/// A hub of one scalar, eliminated first, that reaches 4 blocks of 16: L has more numbers than its cache needs.
+#[test]
+fn a_cache_of_less_than_the_numbers_of_l() {
+    let mut hub = System::builder(1e-12);
+    let first = hub.block(1);
+    hub.store(first, first, &[-1.0]);
+    for _ in 0..4 {
+        let next = hub.block(16);
+        hub.store(next, first, &[0.5; 16]);
+    }
+    let hub = hub.build();
+    let factor = hub.factorize().unwrap();
+    assert_eq!(factor.plan().counts().numbers, 1600);
+    let dims = &hub.tables().dims;
+    assert_eq!(calls::factorize_with_cache_needs(dims, 5, 65, 10, 1600).unwrap()[21], 1472);
+    assert_eq!(factor, hub.factorize_in(&mut Workspace::without_cache()).unwrap());
 }
 
 #[test]

@@ -274,9 +274,11 @@ fn short_buffers_of_a_factorization() {
     let (night, _) = sheet("storm.sheet");
     let factor = night.factorize().unwrap();
     let numbers = factor.values().len();
-    let needs = [8, 8, 9, 9, 10, numbers, 17, 11, 22, 8, 8, 8, 9, 9, 8, 16, 16, 17, 9, 9, 8];
-    assert_eq!(calls::factorize_needs(&night.tables().dims, 16, 9, numbers as u32), Ok(needs));
-    for which in 0..=needs.len() {
+    let needs = [8, 8, 9, 9, 10, numbers, 17, 11, 22, 8, 8, 8, 9, 9, 8, 16, 16, 17, 9, 9, 8, numbers];
+    let FlatTables { dims, values, tolerance, .. } = night.tables();
+    assert_eq!(calls::factorize_needs(dims, 16, 9, numbers as u32).unwrap(), needs[..21]);
+    assert_eq!(calls::factorize_with_cache_needs(dims, 16, values.len() as u32, 9, numbers as u32), Ok(needs));
+    for (which, cached) in (0..=needs.len()).flat_map(|which| [(which, false), (which, true)]) {
         let length = lengths(needs, which);
         let mut tables = [0, 1, 2, 3, 4].map(|k| vec![0; length[k]]);
         let mut floats = [5, 6, 7, 8].map(|k| vec![0.0; length[k]]);
@@ -289,16 +291,26 @@ fn short_buffers_of_a_factorization() {
         let lent = FactorLent {
             order, parents, l_starts, l_rows, l_offsets, l_values, diag, d, column, scratch, bodies, unit_starts, d_starts, places,
         };
-        match calls::factorize(handed(&night), &night.tables().values, night.tables().tolerance, lent) {
+        let mut cache = vec![7.0; length[21]];
+        let answer = if cached {
+            calls::factorize_with_cache(handed(&night), values, *tolerance, lent, &mut cache)
+        } else {
+            calls::factorize(handed(&night), values, *tolerance, lent)
+        };
+        match answer {
             Ok(counts) => {
-                assert_eq!((which, counts), (needs.len(), factor.plan().counts()));
-                assert_eq!(floats[0], factor.values());
+                assert!(which == 22 || which == 21 && !cached);
+                assert_eq!(counts, factor.plan().counts());
+                assert_eq!([&floats[0], &floats[1], &floats[2]], [factor.values(), factor.diag(), factor.d()]);
             }
             Err(why) => {
-                let Error::Short { which: told, need, .. } = why else { panic!("{why}") };
-                assert_eq!((told, need), (which, needs[which]), "{why}");
+                let Error::Short { which: told, name, need } = why else { panic!("{why}") };
+                assert_eq!((told, need, name == "cache"), (which, needs[which], which == 21), "{why}");
             }
         }
+        // where the call has come to the plan, zeros
+        let planned = [3, 4, 5, 21, 22].contains(&which);
+        assert!(cache.iter().all(|&number| number == if cached && planned { 0.0 } else { 7.0 }), "the cache, {which} short");
     }
 }
 
@@ -337,6 +349,7 @@ fn needs_that_are_refused() {
     assert_eq!(calls::plan_needs(4096, 65537, 0), Err(Error::Stored));
     assert_eq!(calls::factorize_needs(&[1, 17], 65537, 0, 0), Err(Error::Dimension { place: 1 }));
     assert_eq!(calls::factorize_needs(&[1, 16], 65537, 0, 0), Err(Error::Stored));
+    assert_eq!(calls::factorize_with_cache_needs(&[1, 16], 65537, 0, 0, 0), Err(Error::Stored));
     assert_eq!(calls::solve_inplace_needs(&[0]), Err(Error::Dimension { place: 0 }));
     assert_eq!(calls::marks_needs(&[1; 4097]), Err(Error::Blocks));
 }

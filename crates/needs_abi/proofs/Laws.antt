@@ -1,11 +1,13 @@
--- What is told of the needs under a verdict, what a verdict that passes says, and the needs that an empty buffer's checks tell. Assumes
--- nothing.
-use Prim.Native.Nat.{ℕ, zero, suc, _≤_}
+-- What is told of the needs under a verdict, what a verdict that passes says, the needs that an empty buffer's checks tell, and the bound on a
+-- cache's. Assumes nothing.
+use Prim.Native.Nat.{ℕ, zero, suc, _+_, _*_, _≤_}
 use mathlib.Core.Bool.{Bool, true, false, cond}
 use mathlib.Core.List.{List, [], _∷_}
 use mathlib.Core.Path.{_≡_, refl, sym, ap, _∙_}
 use native.Mathlib.Omega.{arith}
-use lib.ListN.{length, replicate}
+use lib.Ieee.{Float}
+use lib.ListN.{length, replicate, length-replicate}
+use Rattle.scalar.specs.Scalar.{nought}
 use Rattle.refusal.specs.Refusal.{Told, tells, number, refuses}
 use Rattle.refusal.specs.Check.{needCheck}
 use Rattle.refusal.proofs.Laws.{all-pass, need-short}
@@ -14,7 +16,8 @@ use Rattle.tables.specs.Verdict.{blocksCheck, dimsCheck, storedCheck}
 use Rattle.tables.specs.Sound.{Sizes}
 use Rattle.tables.proofs.CheckLaws.{blocks-pass, dims-pass, stored-pass}
 use Rattle.tables.proofs.TableLaws.{sizes-of}
-use Rattle.needs_abi.specs.Needs.{needTold, treeNeeds, countsVerdict, sizesVerdict, ExportsNeeds}
+use Rattle.factor_core.specs.Cache.{mostKept}
+use Rattle.needs_abi.specs.Needs.{needTold, treeNeeds, shaped, countsVerdict, sizesVerdict, ExportsNeeds}
 
 -- ---- an answer
 
@@ -46,6 +49,10 @@ module _ {v : Told} {r : ℕ} {told : List ℕ} (says : (r ≡ number v) × (tol
     listed = same ∙ sym (ap (λ (b : Bool). cond b (replicate (length list) 0) list) (passes v (sym (says .0) ∙ e)));
   }
 
+-- the needs of an answer that accepts
+pub told-needs : {v : Told} {list : List ℕ} {r : ℕ} {needs told : List ℕ} → ExportsNeeds v list r needs told → r ≡ 0 → needs ≡ list
+told-needs {v} {list} t e = t .listed ∙ ap (λ (b : Bool). cond b (replicate (length list) 0) list) (passes v (sym (t .number) ∙ e))
+
 -- the same needs under another name
 pub same-needs : {v : Told} {list other : List ℕ} {r : ℕ} {needs told : List ℕ} → list ≡ other → ExportsNeeds v list r needs told → ExportsNeeds v other r needs told
 same-needs e t = rw e at t
@@ -75,3 +82,11 @@ empty-tells which (suc n) = ap needTold (sym (need-short which 0 (suc n) (omega 
 -- the tree's needs, which are the walk's too
 pub each-tells : (n : ℕ) → n ∷ n ∷ [] ≡ treeNeeds n
 each-tells n = ap (λ (k : ℕ). k ∷ n ∷ []) (empty-tells 0 n) ∙ ap (λ (k : ℕ). needTold (needCheck 0 0 n) ∷ k ∷ []) (empty-tells 1 n)
+
+-- ---- what is handed in
+
+-- the bound on the cache's need, by the lengths alone
+pub bound : (dims : List ℕ) (m numbers : ℕ) → let n = length dims in mostKept (shaped dims m numbers) ≡ 16 * (1 + (n + (n + 1) + m + numbers + n + n))
+bound dims m numbers =
+    let n = length dims in
+    rw (length-replicate {A = ℕ} (n + 1) 0, length-replicate {A = ℕ} m 0, length-replicate {A = Float} numbers nought, length-replicate {A = ℕ} n 0)

@@ -16,11 +16,12 @@ use Rattle.plan_core.specs.Plan as plan
 use Rattle.machine.specs.System.{System}
 use Rattle.factor_setup.specs.Exact.{stored, numbers}
 use Rattle.factor_core.specs.Factorize as factor
+use Rattle.factor_core.specs.Cache.{mostKept, wholeKept}
 use Rattle.solve_checks.specs.Verdict.{solveVerdict}
 use Rattle.solve_match.specs.Verdict.{matchVerdict}
 use Rattle.solve.specs.Solve.{callVerdict}
 use Rattle.marks.specs.Marks.{marksChecks, marksVerdict}
-use Rattle.needs_abi.specs.Needs.{treeNeeds, reachNeeds, planNeeds, factorNeeds, shaped, solveNeeds, marksNeeds}
+use Rattle.needs_abi.specs.Needs.{treeNeeds, reachNeeds, planNeeds, factorNeeds, cachedNeeds, shaped, solveNeeds, marksNeeds}
 
 -- each length is at least its need
 abbrev pub Enough : (lengths needs : List ℕ) → Type 0
@@ -45,8 +46,15 @@ PlanEnough =
 -- with L's blocks and L's numbers as the plan tells them
 abbrev pub FactorEnough : Type 0
 FactorEnough =
-    (a : System) (b : factor.Places) → Enough (factor.lengthsOf b) (factorNeeds (shaped (a .dims) (length (a .rows))) (stored a) (numbers a))
+    (a : System) (b : factor.Places) → Enough (factor.lengthsOf b) (factorNeeds (shaped (a .dims) (length (a .rows)) 0) (stored a) (numbers a))
     → factor.whole (factor.early a b) a b ≡ firstOf (systemVerdict (a .dims) (a .starts) (a .rows) (a .values) (a .perm) (a .late) (a .tol)) done
+
+-- the same with a cache
+abbrev pub CachedEnough : Type 0
+CachedEnough =
+    (a : System) (b : factor.Places) (cache : ℕ)
+    → Enough (factor.lengthsOf b ++ cache ∷ []) (cachedNeeds (shaped (a .dims) (length (a .rows)) (length (a .values))) (stored a) (numbers a))
+    → wholeKept (factor.early a b) (mostKept a) a b cache ≡ firstOf (systemVerdict (a .dims) (a .starts) (a .rows) (a .values) (a .perm) (a .late) (a .tol)) done
 
 abbrev pub SolveEnough : Type 0
 SolveEnough =

@@ -1,10 +1,11 @@
 -- The needs of each call's lent buffers, read off the call's own checks of 11, and what the exported calls that tell them answer. Assumes
 -- nothing.
 use Prim.Native.Nat.{ℕ, _+_}
-use mathlib.Core.List.{List, [], _∷_, map}
+use mathlib.Core.List.{List, [], _∷_, _++_, map}
 use mathlib.Core.Path.{_≡_}
 use lib.ListN.{length, getD, set, take, drop, replicate}
 use Rattle.scalar.specs.Scalar.{nought}
+use Rattle.scalar.specs.Block.{zeros}
 use Rattle.refusal.specs.Refusal.{Told, tells, verdict, after}
 use Rattle.refusal.specs.Refusal as refusal
 use Rattle.report.specs.Report.{carried}
@@ -17,6 +18,7 @@ use Rattle.scalars.specs.Scalars.{scalarCount}
 use Rattle.machine.specs.System.{System}
 use Rattle.factor_setup.specs.Exact.{system}
 use Rattle.factor_core.specs.Factorize as factor
+use Rattle.factor_core.specs.Cache.{lesser, mostKept}
 use Rattle.solve.specs.Solve.{lentList}
 use Rattle.marks.specs.Marks.{marksChecks}
 
@@ -41,9 +43,16 @@ planNeeds n m blocks = set (plan.firstNeeds n m) 3 blocks
 abbrev pub factorNeeds : System → (blocks numbers : ℕ) → List ℕ
 factorNeeds a blocks numbers = set (set (set (factor.firstNeeds a) 3 blocks) 4 (blocks + 1)) 5 numbers
 
--- a system with these dimensions and m stored blocks; its needs read no more of it
-abbrev pub shaped : (dims : List ℕ) → (m : ℕ) → System
-shaped dims m = system dims [] (replicate m 0) [] [] [] nought
+-- the same with a cache, whose need is the last
+abbrev pub cachedNeeds : System → (blocks numbers : ℕ) → List ℕ
+cachedNeeds a blocks numbers = factorNeeds a blocks numbers ++ lesser numbers (mostKept a) ∷ []
+
+-- a system with these dimensions, m stored blocks and so many numbers, its other tables as long as 3, 8 and 9 want them; its needs read no
+-- more of it
+abbrev pub shaped : (dims : List ℕ) → (m numbers : ℕ) → System
+shaped dims m numbers =
+    let n = length dims in
+    system dims (replicate (n + 1) 0) (replicate m 0) (zeros numbers) (replicate n 0) (replicate n 0) nought
 
 -- of the solve: what 11 tests, and in the right side the scalars, which is what 12 tests
 abbrev pub solveNeeds : (dims : List ℕ) → List ℕ

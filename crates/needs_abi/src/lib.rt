@@ -1,6 +1,7 @@
 // The needs of every lent buffer for callers in C and Rust: a call for each call that is lent any, to be made before it. The list is in the
 // order of the call, so that 11, which carries the buffer and its need, carries a place of it and what stands there. The answer is document
 // 01's number, 0 where the call is accepted. Refused, the needs are zeros; `told` has the block of 2, and zeros after and else.
+use factor_core::core::lesser;
 use factor_tables::core::scalars;
 use factor_tables::core::unit_numbers;
 use factor_tables::core::work_numbers;
@@ -11,7 +12,7 @@ ghost use mathlib.Core.Path.{_≡_};
 ghost use lib.ListN.{length};
 ghost use Rattle.refusal.specs.Refusal as refusal;
 ghost use Rattle.report.specs.Report.{carried};
-ghost use Rattle.needs_abi.specs.Needs.{countsVerdict, sizesVerdict, treeNeeds, reachNeeds, planNeeds, factorNeeds, shaped, solveNeeds, marksNeeds, ExportsNeeds};
+ghost use Rattle.needs_abi.specs.Needs.{countsVerdict, sizesVerdict, treeNeeds, reachNeeds, planNeeds, factorNeeds, cachedNeeds, shaped, solveNeeds, marksNeeds, ExportsNeeds};
 
 // Of `beyqaloosh_elimination_tree` on so many blocks.
 #[no_mangle]
@@ -70,7 +71,7 @@ pub extern "C" fn beyqaloosh_factorize_needs(
     needs: &mut [u64; 21],
     told: &mut [u64; 3],
 ) -> u32
-    ensures { λ r. ⌜ ExportsNeeds (sizesVerdict (now (dims .entry)) stored) (factorNeeds (shaped (now (dims .entry)) stored) «l_blocks» «l_numbers») r (now (needs .exit)) (now (told .exit)) ⌝ }
+    ensures { λ r. ⌜ ExportsNeeds (sizesVerdict (now (dims .entry)) stored) (factorNeeds (shaped (now (dims .entry)) stored 0) «l_blocks» «l_numbers») r (now (needs .exit)) (now (told .exit)) ⌝ }
 {
     let number = check_sizes(dims, stored, told);
     if number != 0 {
@@ -105,6 +106,55 @@ pub extern "C" fn beyqaloosh_factorize_needs(
         n + 1,
         n + 1,
         n,
+    ];
+    number
+}
+
+// Of `beyqaloosh_factorize_with_cache`, where A's values are so many numbers: the same, and the cache's need last.
+#[no_mangle]
+pub extern "C" fn beyqaloosh_factorize_with_cache_needs(
+    dims: &[u32],
+    stored: usize,
+    numbers: u32,
+    l_blocks: u32,
+    l_numbers: u32,
+    needs: &mut [u64; 22],
+    told: &mut [u64; 3],
+) -> u32
+    ensures { λ r. ⌜ ExportsNeeds (sizesVerdict (now (dims .entry)) stored) (cachedNeeds (shaped (now (dims .entry)) stored numbers) «l_blocks» «l_numbers») r (now (needs .exit)) (now (told .exit)) ⌝ }
+{
+    let mut first: [u64; 21] = [0; 21];
+    let number = beyqaloosh_factorize_needs(dims, stored, l_blocks, l_numbers, &mut first, told);
+    if number != 0 {
+        *needs = [0; 22];
+        return number;
+    }
+    let n = dims.len();
+    let handed_in = n + (n + 1) + stored + numbers as usize + n + n;
+    let cache = lesser(l_numbers as usize, 16 * (1 + handed_in)) as u64;
+    *needs = [
+        first[0],
+        first[1],
+        first[2],
+        first[3],
+        first[4],
+        first[5],
+        first[6],
+        first[7],
+        first[8],
+        first[9],
+        first[10],
+        first[11],
+        first[12],
+        first[13],
+        first[14],
+        first[15],
+        first[16],
+        first[17],
+        first[18],
+        first[19],
+        first[20],
+        cache,
     ];
     number
 }
