@@ -64,16 +64,32 @@ impl FactorLent {
     }
 }
 
+/// A cache as long as the library says that it needs, where L has so many blocks and numbers.
+pub fn cache_needed(t: &Tables, values: &[f64], l_blocks: u64, l_numbers: u64) -> Vec<f64> {
+    let needs = calls::factorize_with_cache_needs(&t.dims, t.rows.len(), values.len() as u32, l_blocks as u32, l_numbers as u32);
+    vec![0.0; needs.unwrap()[21]]
+}
+
+/// The factorization, with the cache that is lent, if any.
 pub fn factorize(
-    t: &Tables, values: &[f64], tolerance: f64, lent: &mut FactorLent, told: &mut [u64; 3], value: &mut [f64; 1],
+    t: &Tables, values: &[f64], tolerance: f64, lent: &mut FactorLent, cache: Option<&mut [f64]>, told: &mut [u64; 3],
+    value: &mut [f64; 1],
 ) -> u32 {
     let [order, parents, l_starts, l_rows, l_offsets] = &mut lent.plan;
     let [l_values, diag, d, column] = &mut lent.numbers;
     let [inverse, sizes, count, heads, into, stamps, table, upper, bodies, unit_starts, d_starts, places] = &mut lent.scratch;
-    abi::beyqaloosh_factorize(
-        &t.dims, &t.starts, &t.rows, values, &t.perm, &t.late, tolerance, order, parents, l_starts, l_rows, l_offsets, l_values, diag,
-        d, column, inverse, sizes, count, heads, into, stamps, table, upper, bodies, unit_starts, d_starts, places, told, value,
-    )
+    match cache {
+        None => abi::beyqaloosh_factorize(
+            &t.dims, &t.starts, &t.rows, values, &t.perm, &t.late, tolerance, order, parents, l_starts, l_rows, l_offsets, l_values,
+            diag, d, column, inverse, sizes, count, heads, into, stamps, table, upper, bodies, unit_starts, d_starts, places, told,
+            value,
+        ),
+        Some(cache) => abi::beyqaloosh_factorize_with_cache(
+            &t.dims, &t.starts, &t.rows, values, &t.perm, &t.late, tolerance, order, parents, l_starts, l_rows, l_offsets, l_values,
+            diag, d, column, inverse, sizes, count, heads, into, stamps, table, upper, bodies, unit_starts, d_starts, places, cache,
+            told, value,
+        ),
+    }
 }
 
 /// A factor as a solve reads it: order, parents, L's starts, rows and offsets; L's values, the diagonal factors and d.

@@ -115,8 +115,17 @@ pub fn source_plan(a: &BlockSparseMatrix, perm: &[usize]) -> Planned {
 
 /// The proved factorization of a system that it accepts.
 pub fn ours(system: &factors::Night, lent: &mut FactorLent) -> [u64; 3] {
+    accepted(system, lent, None)
+}
+
+/// The same with a cache.
+pub fn ours_with_cache(system: &factors::Night, lent: &mut FactorLent, cache: &mut [f64]) -> [u64; 3] {
+    accepted(system, lent, Some(cache))
+}
+
+fn accepted(system: &factors::Night, lent: &mut FactorLent, cache: Option<&mut [f64]>) -> [u64; 3] {
     let (mut told, mut value) = ([0; 3], [0.0]);
-    let number = factorize(&system.tables, &system.values, system.tolerance, lent, &mut told, &mut value);
+    let number = factorize(&system.tables, &system.values, system.tolerance, lent, cache, &mut told, &mut value);
     assert_eq!(number, 0, "refused: {told:?}");
     told
 }

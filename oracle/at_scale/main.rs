@@ -18,6 +18,8 @@ use sophus_solver::{
 };
 
 const SEED: u64 = 0x7363616C65;
+/// A factorization's buffers with the cache, which is the last of them.
+const CACHED: usize = factors::BUFFERS + 1;
 /// Up to so many blocks the source's steps are gone through once more for each system, and harmless damage is worked through.
 const SMALL: usize = 100;
 
@@ -99,27 +101,51 @@ impl Runs {
 
     // ---- the factorization
 
-    /// A factorization of any night. Gives the buffers as the call left them.
-    fn factorize(&mut self, night: &Night, over: &[i64; factors::BUFFERS], known: Option<&Known>) -> FactorLent {
-        let t = &night.tables;
+    /// A factorization of any night, without a cache and with one. Gives the buffers as the first call left them.
+    fn factorize(&mut self, night: &Night, over: &[i64; CACHED], known: Option<&Known>) -> FactorLent {
         let refusal = refused_before(night);
         let made = (refusal.is_none() && known.is_none()).then(|| crate::known(night, &mut self.fallbacks));
         let known = if refusal.is_none() { known.or(made.as_ref()) } else { None };
+        let [lent, _] = ["factorize", "with cache"].map(|call| self.factorize_by(call, night, over, refusal, known));
+        lent
+    }
+
+    fn factorize_by(
+        &mut self,
+        call: &'static str,
+        night: &Night,
+        over: &[i64; CACHED],
+        refusal: Option<(u32, u32, u32)>,
+        known: Option<&Known>,
+    ) -> FactorLent {
+        let t = &night.tables;
         let (stored, numbers) = known.map_or((0, 0), |k| (k.plan.l_rows.len(), k.plan.numbers));
         let needs = factors::needs(t, stored, numbers);
-        let lengths = lengths(&needs, over);
+        let lengths = lengths(&needs, over.first_chunk().unwrap());
+        // the cache's need is L's numbers, but no more than 16 for each entry and number that is handed in, and 16
+        let handed_in = t.dims.len() + t.starts.len() + t.rows.len() + night.values.len() + t.perm.len() + t.late.len();
+        let cache_need = numbers.min(16 * (1 + handed_in));
+        let cache_length = (cache_need as i64 + over[factors::BUFFERS]).max(0) as usize;
+        let cached = call == "with cache";
         let mut lent = FactorLent::new(&lengths);
+        let mut cache = [vec![0.0; if cached { cache_length } else { 0 }]];
         self.tally.mark(&mut lent.plan);
         self.tally.mark(&mut lent.numbers);
         self.tally.mark(&mut lent.scratch);
-        let before = lent.clone();
+        self.tally.mark(&mut cache);
+        let (before, cache_before) = (lent.clone(), cache[0].clone());
         let (mut told, mut value) = ([u64::MAX; 3], [f64::NAN]);
-        let number = calls::factorize(t, &night.values, night.tolerance, &mut lent, &mut told, &mut value);
+        let handed = cached.then_some(cache[0].as_mut_slice());
+        let number = calls::factorize(t, &night.values, night.tolerance, &mut lent, handed, &mut told, &mut value);
 
-        let short = short(&lengths, &needs);
+        // the cache is tested after L's values and before L's rows
+        let short = match short(&lengths, &needs).map(|(b, shown)| (b, needs[b], shown)) {
+            None | Some((3, ..)) if cached && cache_length < cache_need => Some((factors::BUFFERS, cache_need, true)),
+            other => other,
+        };
         let (right, float) = match (refusal, short, known) {
             (Some((number, place, _)), _, _) => ((number, [place as u64, 0, 0]), 0.0),
-            (None, Some((b, _)), _) => ((11, [b as u64, needs[b] as u64, 0]), 0.0),
+            (None, Some((b, need, _)), _) => ((11, [b as u64, need as u64, 0]), 0.0),
             (None, None, Some(k)) => match k.worked {
                 Worked::Accepted(_) => ((0, [stored as u64, numbers as u64, k.plan.products]), 0.0),
                 Worked::NotFinite { block, place, pivot } => ((13, [block as u64, place as u64, 0]), pivot),
@@ -127,9 +153,9 @@ impl Runs {
             },
             _ => unreachable!(),
         };
-        self.told("factorize", (number, told), right);
+        self.told(call, (number, told), right);
         if bench::run::bits(value[0]) != bench::run::bits(float) {
-            self.tally.fault(&format!("factorize: carries {:?}, to carry {float:?}", value[0]));
+            self.tally.fault(&format!("{call}: carries {:?}, to carry {float:?}", value[0]));
         }
         // the plan's tables are written in full after 13 and 14 too
         let written = known.filter(|_| [0, 13, 14].contains(&right.0));
@@ -137,7 +163,7 @@ impl Runs {
         let outputs = written.map(|k| [&k.plan.order, &k.plan.parents, &k.plan.l_starts, &k.plan.l_rows, &offsets]);
         for b in 0..5 {
             let after = outputs.map_or(After::Same, |o| After::Filled(o[b]));
-            self.tally.held("factorize, tables", &before.plan[b], &lent.plan[b], after);
+            self.tally.held(&format!("{call}, tables"), &before.plan[b], &lent.plan[b], after);
         }
         for b in 0..3 {
             let after = match written.map(|k| &k.worked) {
@@ -145,14 +171,18 @@ impl Runs {
                 Some(Worked::Accepted(f)) => After::Filled([&f.l_values, &f.diag, &f.d][b]),
                 Some(_) => After::Worthless(needs[5 + b]),
             };
-            self.tally.held("factorize, numbers", &before.numbers[b], &lent.numbers[b], after);
+            self.tally.held(&format!("{call}, numbers"), &before.numbers[b], &lent.numbers[b], after);
         }
-        let cleared = written.is_some() || refusal.is_none() && short.is_some_and(|s| s.1);
+        let cleared = written.is_some() || refusal.is_none() && short.is_some_and(|s| s.2);
         let after = |need: usize| if cleared { After::Zeros(need) } else { After::Same };
-        self.tally.held("factorize, column", &before.numbers[3], &lent.numbers[3], after(needs[8]));
+        self.tally.held(&format!("{call}, column"), &before.numbers[3], &lent.numbers[3], after(needs[8]));
+        if cached {
+            // one that is short itself ends as zeros in full
+            self.tally.held("with cache, cache", &cache_before, &cache[0], after(cache_need.min(cache_length)));
+        }
         for b in 0..12 {
             let after = if cleared { After::Zeros(needs[9 + b]) } else { After::Same };
-            self.tally.held("factorize, scratch", &before.scratch[b], &lent.scratch[b], after);
+            self.tally.held(&format!("{call}, scratch"), &before.scratch[b], &lent.scratch[b], after);
         }
         lent
     }
@@ -198,7 +228,7 @@ impl Runs {
 
     // ---- a system
 
-    /// The three calls on a system that no table refuses, then so many damaged calls of each kind.
+    /// The calls on a system that no table refuses, then so many damaged calls of each kind.
     fn system(&mut self, night: &Night, damaged: usize) {
         self.tally.systems += 1;
         let t = &night.tables;
@@ -332,8 +362,8 @@ fn thousands(count: usize) -> String {
 
 /// The figures as tables.
 fn print(tally: &Tally, fallbacks: &Fallbacks, counts: [usize; 2], most: [usize; 2]) {
-    const CALLS: [&str; 3] = ["plan", "factorize", "solve"];
-    println!("| outcome | plan | of it large | factorize | of it large | solve | of it large |\n|---|--:|--:|--:|--:|--:|--:|");
+    const CALLS: [&str; 4] = ["plan", "factorize", "with cache", "solve"];
+    println!("| outcome | {} | of it large |\n|---{}|", CALLS.join(" | of it large | "), "|--:|--:".repeat(CALLS.len()));
     let row = |name: String, wanted: &dyn Fn(u32) -> bool| {
         let mut cells = vec![name];
         for call in CALLS {

@@ -1,8 +1,9 @@
 //! One call of the source's text or of the proved library on a dissected grid, made in a function of its own, `counted`, so that
-//! callgrind can count what it executes: `count rust|ours plan|factor|solve WIDTH HEIGHT DIM`.
-use bench::calls::{PlanLent, SolveLent, plan, solve_inplace};
+//! callgrind can count what it executes: `count rust|ours plan|factor|solve WIDTH HEIGHT DIM`. Ours factors
+//! with a cache; the side `plain`, which has a factor alone, without one.
+use bench::calls::{PlanLent, SolveLent, cache_needed, plan, solve_inplace};
 use bench::nights::Draw;
-use bench::systems::{factored, matrix, nights, ours, source_plan, system};
+use bench::systems::{factored, matrix, nights, ours, ours_with_cache, source_plan, system};
 use nalgebra::DVector;
 use sophus_solver::{IsFactor, ldlt::block_sparse_ldlt};
 use std::hint::black_box;
@@ -39,7 +40,13 @@ fn main() {
             let mut lent = PlanLent::needed(&system.tables, told[0]);
             counted(&mut || assert_eq!(plan(&system.tables, &mut lent, &mut [0; 3]), 0));
         }
-        ("ours", "factor") => counted(&mut || {
+        ("ours", "factor") => {
+            let mut cache = cache_needed(&system.tables, &system.values, told[0], told[1]);
+            counted(&mut || {
+                ours_with_cache(&system, &mut lent, &mut cache);
+            });
+        }
+        ("plain", "factor") => counted(&mut || {
             ours(&system, &mut lent);
         }),
         ("ours", "solve") => {

@@ -1,7 +1,7 @@
 //! Times the source's factorization and the proved one beside each other, on the same matrices and orders, in one run.
-use bench::calls::FactorLent;
+use bench::calls::{FactorLent, cache_needed};
 use bench::nights::{Night, time};
-use bench::systems::{DIMS, ROUNDS, SHAPES, beside, factored, matrix, nights, ours, system};
+use bench::systems::{DIMS, ROUNDS, SHAPES, beside, factored, matrix, nights, ours, ours_with_cache, system};
 use nalgebra::{DMatrixView, DMatrixViewMut};
 use sophus_solver::{
     fell_back,
@@ -64,6 +64,10 @@ fn compare(night: &Night, dim: usize, gemm: f64) {
     let source = || block_sparse_ldlt::factorize(black_box(&a), night.perm.clone(), system.tolerance);
     let Ok(factor) = source() else { panic!("{}, {n}: the source refuses", night.name) };
     assert_same(night.name, &factor, &lent, dim);
+    let (mut other, mut cache) = (lent.clone(), cache_needed(&system.tables, &system.values, told[0], told[1]));
+    other.numbers.iter_mut().for_each(|numbers| numbers.fill(f64::NAN));
+    assert_eq!(ours_with_cache(&system, &mut other, &mut cache), told, "{}, {n}: other counts with a cache", night.name);
+    assert_same(night.name, &factor, &other, dim);
     drop(factor);
 
     let times = beside([
@@ -73,19 +77,25 @@ fn compare(night: &Night, dim: usize, gemm: f64) {
         &mut || {
             black_box(ours(black_box(&system), black_box(&mut lent)));
         },
+        &mut || {
+            black_box(ours_with_cache(black_box(&system), black_box(&mut other), black_box(&mut cache)));
+        },
     ]);
-    let [rust, proved] = times.map(|t| t / 1000.0);
+    let [rust, proved, cached] = times.map(|t| t / 1000.0);
     println!(
-        "| {} | {n} | {dim} | {stored} | {products} | {rust:.0} | {:.0} | {proved:.0} | {:.1} |",
+        "| {} | {n} | {dim} | {stored} | {products} | {rust:.0} | {:.0} | {proved:.0} | {:.1} | {cached:.0} | {:.1} |",
         night.name,
         products as f64 * gemm / 1000.0,
-        rust / proved
+        rust / proved,
+        rust / cached
     );
 }
 
 fn main() {
-    println!("| pattern and order | blocks | dimension | in L | products | Rust | of it `gemm` | ours | Rust / ours |");
-    println!("|---|--:|--:|--:|--:|--:|--:|--:|--:|");
+    println!(
+        "| pattern and order | blocks | dimension | in L | products | Rust | of it `gemm` | ours | Rust / ours | with cache | Rust / that |"
+    );
+    println!("|---|--:|--:|--:|--:|--:|--:|--:|--:|--:|--:|");
     let gemms = DIMS.map(gemm);
     for (width, height) in SHAPES {
         for night in nights(width, height) {

@@ -1,11 +1,11 @@
-//! Times whole nights beside each other in one run, on the same matrices in the same orders: the source's text, the proved library,
-//! Eigen's SimplicialLDLT and CHOLMOD, simplicial LDLᵀ and supernodal LLᵀ. Each is timed by its parts and as a whole.
+//! Times whole nights beside each other in one run, on the same matrices in the same orders: the source's text, the proved library with a
+//! cache and without one, Eigen's SimplicialLDLT and CHOLMOD, simplicial LDLᵀ and supernodal LLᵀ. Each is timed by its parts and as a whole.
 mod others;
 
-use bench::calls::{FactorLent, PlanLent, SolveLent, plan, solve_inplace};
+use bench::calls::{FactorLent, PlanLent, SolveLent, cache_needed, plan, solve_inplace};
 use bench::factors::{self, bodies};
 use bench::nights::{Draw, Night, arrow, chain, grid};
-use bench::systems::{factored, geometric, matrix, ours, source_plan, system, turns};
+use bench::systems::{factored, geometric, matrix, ours, ours_with_cache, source_plan, system, turns};
 use nalgebra::DVector;
 use others::{OTHERS, Other};
 use sophus_solver::{
@@ -19,6 +19,8 @@ use std::hint::black_box;
 const AT_MOST: f64 = 2e9;
 /// The tables of the parts.
 const PARTS: [&str; 4] = ["night plan", "night numbers", "night solve", "night"];
+/// The variant of ours that is lent no cache.
+const PLAIN: &str = "without cache";
 /// Two solutions are the same where no number is further apart than this part of the greatest.
 const NEAR: f64 = 1e-9;
 
@@ -266,8 +268,14 @@ fn timed(night: &Night, dims: Vec<u32>) -> Vec<(&'static str, [f64; 4])> {
     let plain: Factorize = Box::new(|system, lent| {
         ours(system, lent);
     });
+    let (_, [l_blocks, l_numbers, _]) = factored(&system);
+    let mut cache = cache_needed(&system.tables, &system.values, l_blocks, l_numbers);
+    let cached: Factorize = Box::new(move |system, lent| {
+        ours_with_cache(system, lent, &mut cache);
+    });
     let mut solvers: Vec<Box<dyn Solver + '_>> = vec![
-        Box::new(Ours::new("ours", &system, &right, plain)),
+        Box::new(Ours::new("ours", &system, &right, cached)),
+        Box::new(Ours::new(PLAIN, &system, &right, plain)),
         Box::new(Source::new(&system, &right)),
     ];
     for which in 0..OTHERS.len() {
@@ -278,7 +286,7 @@ fn timed(night: &Night, dims: Vec<u32>) -> Vec<(&'static str, [f64; 4])> {
         solvers.push(Box::new(Given { others, scalar_perm: &scalar_perm, right: permuted.clone(), x }));
     }
 
-    // the same solution; the source's bit for bit
+    // the same solution; the source's and that without a cache bit for bit
     let mut solution: Option<Vec<f64>> = None;
     for solver in &mut solvers {
         solver.call(3);
@@ -286,7 +294,7 @@ fn timed(night: &Night, dims: Vec<u32>) -> Vec<(&'static str, [f64; 4])> {
         let first = solution.get_or_insert_with(|| x.clone());
         let greatest = first.iter().fold(0.0, |m: f64, x| m.max(x.abs()));
         let apart = first.iter().zip(&x).fold(0.0, |m: f64, (a, b)| m.max((a - b).abs()));
-        let near = if solver.name() == "Rust" { 0.0 } else { NEAR * greatest };
+        let near = if ["Rust", PLAIN].contains(&solver.name()) { 0.0 } else { NEAR * greatest };
         assert!(apart <= near, "{}, {}: the solution of {} is {apart:e} apart", night.name, night.n, solver.name());
     }
 
