@@ -86,9 +86,9 @@ uint32_t beyqaloosh_factorize(const uint32_t *dims, size_t dims_len, const uint3
                               uint64_t told[3], double value[1]);
 
 /* The same factorization with one more buffer lent, cache: each block of L, times the unit factor of its column, is kept there as far as
-   there is room, so that it is worked out once. Its need is L's numbers, but no more than 16 times one more than the entries and numbers
-   that are handed in (dims, starts, rows, values, perm and late together). It is buffer 21, and zeros afterwards as far as it is needed,
-   but where 1 to 10 refuse, or 11 for a need that is known without the plan. crates/factorize/src/lib.rt says more. */
+   there is room, and the products take it from there. Its need is L's numbers, but no more than 16 times one more than the entries and
+   numbers that are handed in (dims, starts, rows, values, perm and late together). It is buffer 21. Where 1 to 10 refuse, or 11 for a need
+   that is known without the plan, it is as it was; else it is zeros as far as it is needed. crates/factorize/src/lib.rt says more. */
 uint32_t beyqaloosh_factorize_with_cache(const uint32_t *dims, size_t dims_len, const uint32_t *starts, size_t starts_len,
                                          const uint32_t *rows, size_t rows_len, const double *values, size_t values_len,
                                          const uint32_t *perm, size_t perm_len, const uint32_t *late, size_t late_len, double tol,
@@ -136,7 +136,7 @@ uint32_t beyqaloosh_plan_needs(size_t blocks, size_t stored, uint32_t l_blocks, 
 uint32_t beyqaloosh_factorize_needs(const uint32_t *dims, size_t dims_len, size_t stored, uint32_t l_blocks, uint32_t l_numbers,
                                     uint64_t needs[21], uint64_t told[3]);
 
-/* numbers is how many A's values are, values_len of the call. The last is the cache. */
+/* numbers is how many values A has, values_len of the call. The last need is the cache's. */
 uint32_t beyqaloosh_factorize_with_cache_needs(const uint32_t *dims, size_t dims_len, size_t stored, uint32_t numbers, uint32_t l_blocks,
                                                uint32_t l_numbers, uint64_t needs[22], uint64_t told[3]);
 

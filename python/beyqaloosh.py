@@ -136,8 +136,8 @@ def _slice(handed, argument, kind):
 
 
 def _number(handed, argument, kind):
-    """A size below 0 or past the greatest becomes the greatest, which is too large for each size of a call. A word, a mark or what a plan has
-    told of L, may be any 32 bits, and no other number can stand for one that is none."""
+    """A size below 0 or past the greatest becomes the greatest, which is too large for each size of a call. A word, a mark, the count of A's
+    values or what a plan has told of L, may be any 32 bits, and no other number can stand for one that is none."""
     number = handed[argument]
     if kind == "float" or 0 <= operator.index(number) <= _LAST[kind]:
         return number
@@ -299,8 +299,8 @@ def _bad_table(name, number, told):
 
 
 def _needs(name, **shape):
-    """What the buffers of a call need, in its order, as the library tells it. Of L's rows, offsets and values nothing is known before the plan.
-    Tables that 1, 2 or 4 refuse have no needs: the call refuses them before it looks at a buffer."""
+    """What the buffers of a call need, in its order, as the library tells it. Of L's rows, offsets and values and of the cache nothing
+    is known before the plan. Tables that 1, 2 or 4 refuse have no needs: the call refuses them before it looks at a buffer."""
     try:
         return call(f"{name}_needs", l_blocks=0, l_numbers=0, **shape)["needs"]
     except Error:
@@ -358,7 +358,8 @@ class System:
 
     def factorize(self, cache=True):
         """The factor. Refused by 13 or 14, as by any number, there is none. The call is lent a cache, of as many numbers as L has at most, so
-        that each product of a block of L with the unit factor of its column is worked out once; without it the factor is the same."""
+        that a block of L times the unit factor of its column is not worked out again for every block product; without it the factor is the
+        same."""
         name = "factorize_with_cache" if cache else "factorize"
         lent = _lend(name, **self._shape())
         numbers = {"values": self.values, "tol": self.tolerance}
@@ -373,7 +374,7 @@ class System:
         return Factor(self, lent, told)
 
     def _until_met(self, name, lent, **more):
-        """The call again for each of L's lists and the cache, whose needs only the plan shows."""
+        """The call again for those of L's lists and the cache, whose needs only the plan shows, that are too short."""
         while True:
             try:
                 return call(name, **self._tables(), **more, **lent)["told"]
@@ -381,7 +382,14 @@ class System:
                 short = why.carries.get("name")
                 if why.number != 11 or short not in ("l_rows", "l_offsets", "l_values", "cache"):
                     raise
-                lent[short] = _zeros("f64" if short in ("l_values", "cache") else "u32", why.carries["need"])
+                need = why.carries["need"]
+                lent[short] = _zeros("f64" if short in ("l_values", "cache") else "u32", need)
+                # what follows from it
+                if short == "l_offsets":
+                    lent["l_rows"] = _zeros("u32", need - 1)
+                if short == "l_values" and "cache" in lent:
+                    *_, cache = call(f"{name}_needs", l_blocks=0, l_numbers=need, **self._shape())["needs"]
+                    lent["cache"] = _zeros("f64", cache)
 
 
 class Builder:

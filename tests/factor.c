@@ -47,6 +47,8 @@ static uint64_t told[3];
 static double value[1];
 /* How many places each buffer has beyond its need. */
 static size_t spare;
+/* A second buffer that is one place short, or none. */
+static int also_short = -1;
 
 static int of_floats(int which)
 {
@@ -160,7 +162,7 @@ static void fill_unit(const struct night *a, double full[SCALARS][SCALARS])
         FLOATS(COLUMN), WORDS(INVERSE), WORDS(SIZES), WORDS(COUNT), WORDS(HEADS), WORDS(INTO), WORDS(STAMPS), WORDS(TABLE), WORDS(UPPER), \
         WORDS(BODIES), WORDS(UNIT_STARTS), WORDS(D_STARTS), WORDS(PLACES)
 
-/* Each buffer has its need and what is spare at 1 of its room, less one place of the need where it is the short one. */
+/* Each buffer has its need and what is spare at 1 of its room, less one place of the need where it is a short one. */
 static uint32_t lend(const struct night *a, const uint32_t *starts, double tol, int short_one, int cached)
 {
     size_t len[BUFFERS];
@@ -169,7 +171,7 @@ static uint32_t lend(const struct night *a, const uint32_t *starts, double tol, 
             words[b][i] = (uint32_t)GUARD;
             memcpy(&floats[b][i], &GUARD, sizeof GUARD);
         }
-        len[b] = b == short_one ? need(a, b) - 1 : need(a, b) + spare;
+        len[b] = b == short_one || b == also_short ? need(a, b) - 1 : need(a, b) + spare;
     }
     for (size_t i = 0; i < 3; i++)
         told[i] = GUARD;
@@ -360,6 +362,19 @@ static void shorts(const struct night *a)
     }
 }
 
+/* Of two needs that only the plan shows the first in this order is told. */
+static void in_order(const struct night *a)
+{
+    static const int TESTED[] = {L_OFFSETS, L_VALUES, CACHE, L_ROWS};
+    for (int f = 0; f < 4; f++)
+        for (int s = f + 1; s < 4; s++) {
+            also_short = TESTED[s];
+            check(lend(a, a->starts, 1e-12, TESTED[f], 1) == 11, a->name, TESTED[f], "not 11 where two are short");
+            check(told[0] == (uint64_t)TESTED[f] && told[1] == need(a, TESTED[f]), a->name, TESTED[f], "the other of two that are short");
+            also_short = -1;
+        }
+}
+
 /* A refusal by the tables: its number and place, and all as it was. */
 static void untouched(const struct night *a, const uint32_t *starts, double tol, uint32_t number, uint64_t place, const char *what)
 {
@@ -388,6 +403,7 @@ int main(void)
         spare = 2;
         accepted(a);
         shorts(a);
+        in_order(a);
         spare = 0;
         accepted(a);
         multiplies(a, full);

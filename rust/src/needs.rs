@@ -1,5 +1,5 @@
-//! What the buffers of each call need, in the order of the call, as the library tells it. Of L's rows, offsets and values nothing is known
-//! before the plan.
+//! What the buffers of each call need, in the order of the call, as the library tells it. Of L's rows, offsets and values and of the
+//! cache nothing is known before the plan.
 //!
 //! Tables that 1, 2 or 4 refuse have no needs: the call refuses them before it looks at a buffer.
 use crate::calls;

@@ -29,9 +29,9 @@ impl PlanSpace {
 }
 
 /// The scratch of plans, factorizations and solves. It grows where a call needs more and never shrinks, so a call on a system no larger
-/// than one before allocates nothing. A factorization is lent a cache too, of as many numbers as L has at most, so that each product of a block
-/// of L with the unit factor of its column is worked out once; [`without_cache`](Workspace::without_cache) spares that memory. The factor is
-/// the same, number by number.
+/// than one before allocates nothing. A factorization is lent a cache too, of as many numbers as L has at most, so that a block of L times the
+/// unit factor of its column is not worked out again for every block product; [`without_cache`](Workspace::without_cache) spares that
+/// memory. The factor is the same, number by number.
 #[derive(Clone, Debug, Default)]
 pub struct Workspace {
     pub(crate) plan: PlanSpace,

@@ -17,7 +17,7 @@ use Rattle.factor_core.specs.declared.Factorized.{Factorized}
 abbrev pub carriedFloat : refusal.Told → List Float
 carriedFloat (refusal.tells n is xs) = take 1 (xs ++ zeros 1)
 
--- a call whose promise is of its outcome: the number, the three places and the float are those of an outcome with which it is kept
+-- the call answers by an outcome that meets its promise: the number, the three places and the float are that outcome's
 pub record Answers (Promise : Factorized → Type 0) (r : ℕ) (t : List ℕ) (v : List Float) : Type 0 where
   pub outcome : Factorized
   pub factors : Promise outcome

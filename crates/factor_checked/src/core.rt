@@ -1,4 +1,4 @@
-// The factorization with a cache whose need has a bound by what is handed in.
+// The factorization on any input; the cache's bound is a multiple of what is handed in, 0 for a call that is lent none.
 use checks::System;
 use checks::check_system;
 use factor_core::Factorized;
@@ -10,8 +10,8 @@ ghost use Rattle.factor_setup.specs.Exact.{system};
 ghost use Rattle.factor_core.specs.Factorize.{lent, early};
 ghost use Rattle.factor_core.specs.Cache.{handedIn, FactorsKept};
 
-// The tables are tested, then what is lent, then the factor is made. At most `scale` numbers are kept for 1 and each entry and number that
-// is handed in.
+// The tables are tested, then what is lent, then the factor is made. The cache's need is at most `scale` × (1 + the entries and numbers handed
+// in).
 pub fn factor_checked(
     dims: &[u32],
     starts: &[u32],
@@ -97,7 +97,7 @@ pub fn factor_checked(
     }
 }
 
-// `scale` for 1 and each entry and number that is handed in.
+// `scale` × (1 + the entries and numbers handed in).
 fn kept_bound(
     dims: &[u32],
     starts: &[u32],

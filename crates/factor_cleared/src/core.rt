@@ -1,5 +1,5 @@
-// The factorization where the night's tables have passed and each buffer but L's rows, offsets and values has exactly its
-// need, its scratch cleared at the end.
+// The factorization where the night's tables have passed and each buffer but L's rows, offsets and values and the cache
+// has exactly its need, its scratch cleared at the end.
 use factor_core::Factorized;
 use factor_fit::core::fit;
 use scratch::core::clear_factor;

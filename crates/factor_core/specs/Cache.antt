@@ -24,7 +24,7 @@ lesser m n = cond (ltb m n) m n
 abbrev pub handedIn : System → ℕ
 handedIn a = length (a .dims) + length (a .starts) + length (a .rows) + length (a .values) + length (a .perm) + length (a .late)
 
--- the bound on a need by what is handed in
+-- the most that the cache needs, by what is handed in
 abbrev pub mostKept : System → ℕ
 mostKept a = 16 * (1 + handedIn a)
 
@@ -32,7 +32,7 @@ mostKept a = 16 * (1 + handedIn a)
 abbrev pub cacheNeed : (most : ℕ) → System → ℕ
 cacheNeed most a = lesser (numbers a) most
 
--- what only the plan shows where a cache of `have` numbers is lent, after all else: L's row table last
+-- the needs that only the plan shows, where a cache of `have` numbers is lent: L's offsets and values, the cache, and L's row table last
 abbrev pub keptList : (most : ℕ) → System → Places → (have : ℕ) → List Lent
 keptList most a b have = planNeeds (length (b .lOffsets)) (length (b .lValues)) have (length (b .lRows)) (stored a) (numbers a) (cacheNeed most a)
 
@@ -44,7 +44,8 @@ wholeKept v most a b have = verdictAfter v (needChecks (keptList most a b have))
 abbrev pub clearedTo : ℕ → List Float → List Float
 clearedTo n xs = zeros (lesser n (length xs)) ++ drop n xs
 
--- What is left under an early verdict v: all as `FactorsBy` says; and where v does not refuse, the cache is zeros as far as it is needed.
+-- What is left under an early verdict v: all as `FactorsBy` says; the cache is as it was where v refuses, else zeros as far as it is needed and
+-- lent, and beyond its need as it was.
 pub record FactorsKept (v : Told) (most : ℕ) (a : System) (b : Places) (c : List Float) (r : Factorized) (b′ : Places) (c′ : List Float) : Type 0 where
   pub factors : FactorsBy v (wholeKept v most a b (length c)) a b r b′
   pub cache : c′ ≡ after v c (clearedTo (cacheNeed most a) c)

@@ -1,4 +1,4 @@
--- The outputs of a factorization before its scratch is cleared. Assumes nothing.
+-- The outputs of a factorization before its scratch is cleared, and the needs that only the plan shows. Assumes nothing.
 use Prim.Native.Nat.{ℕ, _+_}
 use mathlib.Core.List.{List, [], _∷_, _++_}
 use mathlib.Core.Path.{_≡_}
@@ -21,7 +21,8 @@ factorizedBy stored numbers (worked.Done count) = variant.Accepted (record { sto
 factorizedBy stored numbers (worked.NotFinite block place pivot) = variant.NotFinite block place pivot
 factorizedBy stored numbers (worked.Poor block condition) = variant.Poor block condition
 
--- the needs that only the plan shows, by the lengths of L's offsets, values, the cache and L's rows
+-- the needs that only the plan shows, by the lengths of L's offsets, values, the cache and L's rows, where L has so many blocks and numbers and
+-- the cache needs `kept`
 abbrev pub planNeeds : (offsets values cache rows stored numbers kept : ℕ) → List Lent
 planNeeds offsets values cache rows stored numbers kept =
     record { which = 4; have = offsets; need = stored + 1 }

@@ -1,4 +1,5 @@
-// The factorization where the night's tables have passed and each buffer but L's rows, offsets and values has exactly its need.
+// The factorization where the night's tables have passed and each buffer but L's rows, offsets and values and the cache has
+// exactly its need.
 use factor_core::Factorized;
 use factor_core::core::clear_to;
 use factor_core::core::factorized_by;

@@ -97,15 +97,15 @@ pub fn factorize(
 }
 
 // The same factor with one more buffer of scratch, `cache`. Each product of blocks i, j and k takes Q(i), which is L(i, k) times the unit
-// factor of k: `factorize` works it out once for each j, here it is worked out once, when column k is finished, and kept. Where `cache` is
-// long enough, answer, outputs and count are those of `factorize`.
+// factor of k: `factorize` works it out again for each j; here it is worked out when column k is finished, and kept. Only Q(j) d is still made
+// from L(j, k), once for each j and k. Where `cache` is long enough, answer, outputs and count are those of `factorize`.
 //
 // The need of `cache` is the lesser of L's numbers and 16 × (1 + the entries and numbers handed in), which are those of `dims`, `starts`,
 // `rows`, `values`, `perm` and `late`. Only so many places of it are used: a Q(i) that does not stand in them is worked out as in
 // `factorize`. In a refusal by 11 it is buffer 21. Its need is tested after that of `l_values` and before that of `l_rows`, since only the
 // plan shows it.
 //
-// What is left is as `factorize` says, and in `cache`:
+// What is left is as `factorize` says, where 11 for `cache` is as 11 for `l_rows`; and in `cache`:
 // - Accepted, refused by 13 or 14, or refused by 11 for `l_offsets`, `l_values`, `cache` or `l_rows`: zeros as far as its need goes; where
 //   `cache` itself is too short, in all of it.
 // - Refused by 1 to 10, or by 11 for any other buffer: as it was.

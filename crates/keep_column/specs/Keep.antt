@@ -29,7 +29,7 @@ module _ (sizes rows offsets : List ℕ) (k from end : ℕ) where
     pub body : (u : ℕ) → from ≤ u → u < end → at offsets u + at sizes (at rows u) * at sizes k ≤ values
     pub after : (u v : ℕ) → from ≤ u → u < v → v < end → at offsets u + at sizes (at rows u) * at sizes k ≤ at offsets v
 
-  -- what is promised: what ends before all of them is not changed
+  -- what is promised: as long as it was; each Q(i) that fits stands at its place; what ends before all of them is not changed
   pub record Keeps (values unit cache cache′ : List Float) : Type 0 where
     pub long : length cache′ ≡ length cache
     pub own : (u : ℕ) → from ≤ u → u < end → at offsets u + at sizes (at rows u) * at sizes k ≤ length cache
