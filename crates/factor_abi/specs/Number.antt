@@ -1,21 +1,16 @@
 -- What the exported factorizations answer: the number of an outcome of `factorize::factorize` or `factorize::factorize_with_cache`, and what it
 -- carries. Assumes nothing.
 use Prim.Native.Nat.{ℕ}
-use mathlib.Core.List.{List, _++_}
+use mathlib.Core.List.{List}
 use mathlib.Core.Path.{_≡_}
 use lib.Ieee.{Float}
-use lib.ListN.{take}
-use Rattle.scalar.specs.Block.{zeros}
 use Rattle.refusal.specs.Refusal as refusal
 use Rattle.report.specs.Report.{carried}
 use Rattle.machine.specs.System.{System}
 use Rattle.factor_core.specs.Factorize.{Places, Factors, early, told}
 use Rattle.factor_core.specs.Cache.{FactorsWithCache}
 use Rattle.factor_core.specs.declared.Factorized.{Factorized}
-
--- the float that an answer carries, or 0.0
-abbrev pub carriedFloat : refusal.Told → List Float
-carriedFloat (refusal.tells n is xs) = take 1 (xs ++ zeros 1)
+use Rattle.factor_report.specs.Float.{carriedFloat}
 
 -- the call answers by an outcome that meets its promise: the number, the three places and the float are that outcome's
 pub record Answers (Promise : Factorized → Type 0) (r : ℕ) (t : List ℕ) (v : List Float) : Type 0 where

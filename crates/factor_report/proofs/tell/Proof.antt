@@ -1,4 +1,4 @@
--- `factor_abi::tell` meets its contract: each case is told as the library tells it. Assumes nothing.
+-- `factor_report::tell` meets its contract: each case is told as the library tells it. Assumes nothing.
 use Prim.Native.Nat.{ℕ}
 use mathlib.Core.List.{List}
 use mathlib.Core.Path.{_≡_, sym, ap, _∙_}
@@ -8,9 +8,9 @@ use Rattle.refusal.specs.Refusal.{number}
 use Rattle.report.specs.Report.{carried}
 use Rattle.factor_core.specs.Factorize as core
 use Rattle.factor_core.specs.declared.Factorized.{Factorized}
-use Rattle.factor_abi.specs.Number.{carriedFloat}
-use Rattle.factor_abi.proofs.tell.Statement.{statement}
-use Rattle.factor_abi.proofs.tell.Tie as tie
+use Rattle.factor_report.specs.Float.{carriedFloat}
+use Rattle.factor_report.proofs.tell.Statement.{statement}
+use Rattle.factor_report.proofs.tell.Tie as tie
 
 -- what is told of a case is told of an outcome that is this case
 tells-as :
