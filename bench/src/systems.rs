@@ -64,6 +64,28 @@ pub fn nights(width: usize, height: usize) -> Vec<Night> {
     vec![grid(width, height), geometric(n), chain(n)]
 }
 
+/// A pattern, what its dimensions are called, and they.
+pub type Timed = (Night, String, Vec<u32>);
+
+/// All blocks of one dimension.
+pub fn even(night: Night, dim: u32) -> Timed {
+    let dims = vec![dim; night.n];
+    (night, dim.to_string(), dims)
+}
+
+/// Points linked where they are near, the last few of the order with links all over; dimensions 1 to 6, and a few of 16.
+pub fn hubs(n: usize) -> Timed {
+    let mut night = geometric(n);
+    night.name = "geometric with hubs";
+    let mut draw = Draw(n as u64 + 1);
+    for k in 1..=2 {
+        let hub = night.perm[n - k];
+        night.links.extend((0..n / 8).map(|_| (hub, draw.below(n))).filter(|l| l.0 != l.1));
+    }
+    let dims = (0..n).map(|_| if draw.below(20) == 0 { 16 } else { 1 + draw.below(6) as u32 }).collect();
+    (night, "1 to 16".into(), dims)
+}
+
 /// A pattern with blocks of these dimensions: values between -1/2 and 1/2, with a diagonal that outweighs its row.
 pub fn system(night: &Night, dims: Vec<u32>) -> factors::Night {
     let n = night.n;

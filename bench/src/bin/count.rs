@@ -1,9 +1,10 @@
-//! One call of the source's text or of the proved library on a dissected grid, made in a function of its own, `counted`, so that
-//! callgrind can count what it executes: `count rust|ours plan|factor|solve WIDTH HEIGHT DIM`. Ours factors
-//! with a cache; the side `plain`, which has a factor alone, without one.
+//! One call of the source's text or of the proved library on a dissected grid or, where one number is told in the place of three, on the
+//! geometric night with hubs of so many blocks; made in a function of its own, `counted`, so that callgrind can count what it executes:
+//! `count rust|ours plan|factor|solve WIDTH HEIGHT DIM|BLOCKS`. Ours factors with a cache; the side `plain`, which has a factor alone,
+//! without one.
 use bench::calls::{PlanLent, SolveLent, cache_needed, plan, solve_inplace};
-use bench::nights::Draw;
-use bench::systems::{factored, matrix, nights, ours, ours_with_cache, source_plan, system};
+use bench::nights::{Draw, grid};
+use bench::systems::{even, factored, hubs, matrix, ours, ours_with_cache, source_plan, system};
 use nalgebra::DVector;
 use sophus_solver::{IsFactor, ldlt::block_sparse_ldlt};
 use std::hint::black_box;
@@ -16,16 +17,20 @@ pub fn counted(call: &mut dyn FnMut()) {
 
 fn main() {
     let words: Vec<String> = std::env::args().skip(1).collect();
-    let [side, part, width, height, dim] = &words[..] else { panic!("count SIDE PART WIDTH HEIGHT DIM") };
-    let night = nights(width.parse().unwrap(), height.parse().unwrap()).swap_remove(0);
-    let system = system(&night, vec![dim.parse().unwrap(); night.n]);
+    let sizes: Vec<usize> = words.iter().skip(2).map(|word| word.parse().expect("no number")).collect();
+    let (night, _, dims) = match sizes[..] {
+        [width, height, dim] => even(grid(width, height), dim as u32),
+        [blocks] => hubs(blocks),
+        _ => panic!("count SIDE PART WIDTH HEIGHT DIM, or count SIDE PART BLOCKS"),
+    };
+    let system = system(&night, dims);
     let (mut lent, told) = factored(&system);
     let a = matrix(&system);
     let source = || block_sparse_ldlt::factorize(&a, night.perm.clone(), system.tolerance).ok().expect("the source refuses");
     let scalars = lent.numbers[2].len();
     let mut draw = Draw(night.n as u64);
     let right: Vec<f64> = (0..scalars).map(|_| draw.fraction() - 0.5).collect();
-    match (side.as_str(), part.as_str()) {
+    match (words[0].as_str(), words[1].as_str()) {
         ("rust", "plan") => counted(&mut || {
             black_box(source_plan(&a.lower, &night.perm));
         }),

@@ -5,7 +5,7 @@ mod others;
 use bench::calls::{FactorLent, PlanLent, SolveLent, cache_needed, plan, solve_inplace};
 use bench::factors::{self, bodies};
 use bench::nights::{Draw, Night, arrow, chain, grid};
-use bench::systems::{factored, geometric, matrix, ours, ours_with_cache, source_plan, system, turns};
+use bench::systems::{Timed, even, factored, hubs, matrix, ours, ours_with_cache, source_plan, system, turns};
 use nalgebra::DVector;
 use others::{OTHERS, Other};
 use sophus_solver::{
@@ -213,28 +213,6 @@ fn expanded(system: &factors::Night) -> (Vec<usize>, Vec<i32>, Vec<i32>, Vec<f64
 }
 
 // ---- the nights
-
-/// A pattern, what its dimensions are called, and they.
-type Timed = (Night, String, Vec<u32>);
-
-/// All blocks of one dimension.
-fn even(night: Night, dim: u32) -> Timed {
-    let dims = vec![dim; night.n];
-    (night, dim.to_string(), dims)
-}
-
-/// Points linked where they are near, the last few of the order with links all over; dimensions 1 to 6, and a few of 16.
-fn hubs(n: usize) -> Timed {
-    let mut night = geometric(n);
-    night.name = "geometric with hubs";
-    let mut draw = Draw(n as u64 + 1);
-    for k in 1..=2 {
-        let hub = night.perm[n - k];
-        night.links.extend((0..n / 8).map(|_| (hub, draw.below(n))).filter(|l| l.0 != l.1));
-    }
-    let dims = (0..n).map(|_| if draw.below(20) == 0 { 16 } else { 1 + draw.below(6) as u32 }).collect();
-    (night, "1 to 16".into(), dims)
-}
 
 /// 4,096 blocks and nearly 65,536 stored: a band of 15.
 fn band() -> Night {
