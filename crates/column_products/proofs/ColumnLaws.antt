@@ -11,7 +11,7 @@ use Rattle.machine.specs.Machine.{State, columnAt, matProduct}
 use Rattle.block_product.specs.Working.{slot}
 use Rattle.block_product.proofs.SlotLaws.{at-slot, slot-length}
 use Rattle.row_products.specs.Rows.{RowsFit, RowProducts}
-use Rattle.column_products.specs.Columns.{Plan, sizeOf, placeOf, Holds, PlacesFit, ColumnProducts}
+use Rattle.column_products.specs.Columns.{Plan, sizeOf, placeOf, Holds, Kept, PlacesFit, ScaledByD, ColumnProducts}
 
 module _ (p : Plan) (j k from end : ℕ) (le : from ≤ end) where
   -- the lent parts of the tables
@@ -39,7 +39,7 @@ module _ (p : Plan) (j k from end : ℕ) (le : from ≤ end) where
 
     -- the rows' products, with Q(j) d made from row j, are the column's
     pub column-products : (vs diag d cache qj cl c′ : List Float) (count count′ : ℕ) → from < end → at (p .lRows) from ≡ j
-        → qj ≡ timesDiag (sizeOf p j) (sizeOf p k) (slot (at (p .dStarts) k) (sizeOf p k) d) (matProduct (sizeOf p j) (sizeOf p k) (sizeOf p k) (slot (at (p .lOffsets) from) (sizeOf p j * sizeOf p k) vs) (slot (at (p .unitStarts) k) (sizeOf p k * sizeOf p k) diag))
+        → ScaledByD (sizeOf p j) (sizeOf p k) (at (p .lOffsets) from) vs cache (slot (at (p .unitStarts) k) (sizeOf p k * sizeOf p k) diag) (slot (at (p .dStarts) k) (sizeOf p k) d) qj
         → RowProducts (sizeOf p) (placeOf p) j k rows offsets vs cache (slot (at (p .unitStarts) k) (sizeOf p k * sizeOf p k) diag) qj cl count c′ count′
         → ColumnProducts p j k from end vs diag d cache cl count c′ count′
     column-products vs diag d cache qj cl c′ count count′ lt at-j q r =
@@ -55,10 +55,17 @@ module _ (p : Plan) (j k from end : ℕ) (le : from ≤ end) where
                     rw (at-slot (p .lRows) from (end - from) t (omega (arith, rows-length)), at-slot (p .lOffsets) from (end - from) t (omega (arith, rows-length)))
                     (holds .bodies (from + t) (omega arith) (omega (arith, rows-length)));
                 by-unit = holds .by-unit;
-                by-q = q ∙ rw (holds .by-unit, holds .by-d) (ap (λ (b : List Float). timesDiag (sizeOf p j) (sizeOf p k) (columnAt s k .d) (matProduct (sizeOf p j) (sizeOf p k) (sizeOf p k) b (columnAt s k .unit))) (first s holds));
+                by-q = q (first-kept s holds kept) ∙ rw (holds .by-unit, holds .by-d) (ap (λ (b : List Float). timesDiag (sizeOf p j) (sizeOf p k) (columnAt s k .d) (matProduct (sizeOf p j) (sizeOf p k) (sizeOf p k) b (columnAt s k .unit))) (first s holds));
               });
         }
       where
         -- the body of row j
         first : (s : State) → Holds p vs diag d k from end (columnAt s k) → slot (at (p .lOffsets) from) (sizeOf p j * sizeOf p k) vs ≡ columnAt s k .body j
         first s holds = rw at-j at (holds .bodies from (omega arith) lt)
+
+        -- Q(j), where the cache reaches so far
+        first-kept :
+            (s : State) → Holds p vs diag d k from end (columnAt s k) → Kept p cache k from end (columnAt s k) →
+            at (p .lOffsets) from + sizeOf p j * sizeOf p k ≤ length cache →
+            slot (at (p .lOffsets) from) (sizeOf p j * sizeOf p k) cache ≡ matProduct (sizeOf p j) (sizeOf p k) (sizeOf p k) (slot (at (p .lOffsets) from) (sizeOf p j * sizeOf p k) vs) (slot (at (p .unitStarts) k) (sizeOf p k * sizeOf p k) diag)
+        first-kept s holds kept = rw (first s holds, holds .by-unit) (rw at-j at (kept from (omega arith) lt))

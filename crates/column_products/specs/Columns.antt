@@ -8,8 +8,15 @@ use lib.ListN.{length}
 use Rattle.graph.specs.Sets.{elem}
 use Rattle.graph.specs.Count.{triple}
 use Rattle.tables.specs.Verdict.{at}
-use Rattle.machine.specs.Machine.{State, Column, columnAt, scaled, products}
+use Rattle.tiled_product.specs.Tiled.{timesDiag}
+use Rattle.machine.specs.Machine.{State, Column, columnAt, matProduct, scaled, products}
 use Rattle.block_product.specs.Working.{slot, Apart, Shows}
+
+-- q is Q(j) d, L(j, k) of h rows and w columns standing in `values` from o on, if the cache, where it reaches so far, has Q(j) at the same place
+abbrev pub ScaledByD : (h w o : ℕ) (values cache unit d q : List Float) → Type 0
+ScaledByD h w o values cache unit d q =
+    (o + h * w ≤ length cache → slot o (h * w) cache ≡ matProduct h w w (slot o (h * w) values) unit)
+    → q ≡ timesDiag h w d (matProduct h w w (slot o (h * w) values) unit)
 
 -- The tables, by new number: the dimensions; where each block of the working column begins; the rows of L, column after column;
 -- where the body of each begins in L's values; where a diagonal block's unit factor begins, and its d.

@@ -1,14 +1,16 @@
 // The block products of column j by column k, where the plan's tables are known to be good.
 use block_product::core::multiply_diag;
 use row_products::core::apply_rows;
+use scalar::core::copy;
+use tiled_product::core::times_diag_core;
 ghost use mathlib.Core.Path.{_≡_};
-ghost use Prim.Native.Nat.{_+_, _-_, _<_, _^_};
+ghost use Prim.Native.Nat.{_+_, _-_, _*_, _≤_, _<_, _^_};
 ghost use lib.ListN.{length};
 ghost use Rattle.tables.specs.Verdict.{at};
-ghost use Rattle.column_products.specs.Columns.{plan, PlacesFit, FactorsFit, ColumnProducts};
+ghost use Rattle.column_products.specs.Columns.{plan, PlacesFit, FactorsFit, ScaledByD, ColumnProducts};
 
-// By column k, whose row j stands at place `from` of the tables, and whose last row before `end`. Q(j) d is worked out once, and
-// each Q(i) that the cache has is taken from it.
+// By column k, whose row j stands at place `from` of the tables, and whose last row before `end`. Q(j) d is made once, and each Q that the
+// cache has, Q(j) among them, is taken from it.
 pub fn apply_column(
     sizes: &[u32],
     places: &[u32],
@@ -38,15 +40,16 @@ pub fn apply_column(
     let wk = sizes[k] as usize;
     let room = hj * wk;
     let o = l_offsets[from] as usize;
-    let o_end = o + room;
     let u = unit_starts[k] as usize;
     let u_end = u + wk * wk;
     let s = d_starts[k] as usize;
     let s_end = s + wk;
-    multiply_diag(
+    scaled_by_d(
         hj,
         wk,
-        &values[o..o_end],
+        o,
+        values,
+        cache,
         &diag[u..u_end],
         &d[s..s_end],
         &mut qj[..room],
@@ -66,4 +69,28 @@ pub fn apply_column(
         c,
         count,
     )
+}
+
+// q becomes Q(j) d, where L(j, k), of h rows and w columns, begins at o in `values`: with Q(j) from the cache, where it stands as L(j, k) does in
+// `values`, or worked out where the cache has no place for it.
+fn scaled_by_d(
+    h: usize,
+    w: usize,
+    o: usize,
+    values: &[f64],
+    cache: &[f64],
+    unit: &[f64],
+    d: &[f64],
+    q: &mut [f64],
+)
+    requires { ⌜ (0 < w) × (o + h * w ≤ length (now values)) × (length (now unit) ≡ w * w) × (length (now d) ≡ w) × (length (now q) ≡ h * w) ⌝ }
+    ensures { λ _. ⌜ ScaledByD h w o (now (values .entry)) (now (cache .entry)) (now (unit .entry)) (now (d .entry)) (now (q .exit)) ⌝ }
+{
+    let end = o + h * w;
+    if end <= cache.len() {
+        copy(&cache[o..end], q);
+        times_diag_core(h, w, d, q);
+        return;
+    }
+    multiply_diag(h, w, &values[o..end], unit, d, q);
 }
