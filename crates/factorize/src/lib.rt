@@ -97,8 +97,8 @@ pub fn factorize(
 }
 
 // The same factor with one more buffer of scratch, `cache`. Each product of blocks i, j and k takes Q(i), which is L(i, k) times the unit
-// factor of k: `factorize` works it out again for each j; here it is worked out when column k is finished, and kept. Only Q(j) d is still made
-// from L(j, k), once for each j and k. Where `cache` is long enough, answer, outputs and count are those of `factorize`.
+// factor of k: `factorize` works it out again for each j; here it is worked out when column k is finished, and kept. Where `cache` is long
+// enough, answer, outputs and count are those of `factorize`.
 //
 // The need of `cache` is the lesser of L's numbers and 16 × (1 + the entries and numbers handed in), which are those of `dims`, `starts`,
 // `rows`, `values`, `perm` and `late`. Only so many places of it are used: a Q(i) that does not stand in them is worked out as in
