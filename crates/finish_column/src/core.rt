@@ -1,8 +1,7 @@
 // The end of a column, where the plan's tables are known to be good.
 use block_diag_ldlt::core::Settled;
 use block_diag_ldlt::core::decompose_core;
-use dense_solve_right::core::ldlt_right_matsolve_core;
-use scalar::core::copy;
+use tiled_right::core::ldlt_right_matsolve_tiled;
 ghost use mathlib.Core.Path.{_≡_};
 ghost use Prim.Native.Nat.{_*_, _<_};
 ghost use lib.ListN.{length};
@@ -170,6 +169,5 @@ fn store_block(h: usize, w: usize, unit: &[f64], d: &[f64], from: &[f64], x: &mu
     requires { ⌜ (length (now unit) ≡ w * w) × (length (now d) ≡ w) × (length (now from) ≡ h * w) × (length (now x) ≡ h * w) ⌝ }
     ensures { λ _. ⌜ now (x .exit) ≡ ldltRightMatsolve h w (now (unit .entry)) (now (d .entry)) (now (from .entry)) ⌝ }
 {
-    copy(from, x);
-    ldlt_right_matsolve_core(h, w, unit, d, x);
+    ldlt_right_matsolve_tiled(h, w, unit, d, from, x);
 }

@@ -434,8 +434,9 @@ pub fn keep(m: usize, n: usize, y: &mut [f64], j0: usize, j1: usize, j2: usize, 
     store(y, m, n, i, j2, s.c2);
 }
 
-// Four entries go to column j of Y.
-fn store4(m: usize, n: usize, y: &mut [f64], j: usize, i: usize, a: f64, b: f64, c: f64, d: f64)
+// Four entries go to column j of Y, from row i on. Here the compiler sees that they are neighbours, and stores them in pairs: a load of two
+// that were stored one by one has to wait.
+pub fn store4(m: usize, n: usize, y: &mut [f64], j: usize, i: usize, a: f64, b: f64, c: f64, d: f64)
     requires { ⌜ (i + 4 ≤ m) × (j < n) × (length (now y) ≡ m * n) ⌝ }
     ensures { λ _. ⌜ now (y .exit) ≡ putDown4 m j i a b c d (now (y .entry)) ⌝ }
 {
@@ -443,8 +444,8 @@ fn store4(m: usize, n: usize, y: &mut [f64], j: usize, i: usize, a: f64, b: f64,
     store(y, m, n, i + 3, j, d);
 }
 
-// Three entries go to column j of Y.
-fn store3(m: usize, n: usize, y: &mut [f64], j: usize, i: usize, a: f64, b: f64, c: f64)
+// Three entries go to column j of Y, from row i on.
+pub fn store3(m: usize, n: usize, y: &mut [f64], j: usize, i: usize, a: f64, b: f64, c: f64)
     requires { ⌜ (i + 3 ≤ m) × (j < n) × (length (now y) ≡ m * n) ⌝ }
     ensures { λ _. ⌜ now (y .exit) ≡ putDown3 m j i a b c (now (y .entry)) ⌝ }
 {
