@@ -87,7 +87,7 @@ fn read(h: &[u32; 44]) -> bool {
     )
 }
 
-// The buffers are marked, and each is lent as long as the list says.
+// Outputs and the working column are marked, and each is lent as long as the list says.
 fn lending(
     h: &[u32; 44],
     dims: &[u32],
@@ -106,6 +106,57 @@ fn lending(
     let k12 = room::of_numbers(h[12]);
     let k13 = room::of_numbers(h[13]);
     let k14 = room::of_numbers(h[14]);
+    let mut order = room::lent_blocks();
+    let mut parents = room::lent_blocks();
+    let mut l_starts = room::lent_blocks();
+    let mut l_rows = room::lent_l_blocks();
+    let mut l_offsets = room::lent_l_blocks();
+    let mut l_values = room::lent_l_numbers();
+    let mut diag = room::lent_numbers();
+    let mut d = room::lent_numbers();
+    let mut column = room::lent_numbers();
+    let told = with_scratch(
+        h,
+        dims,
+        starts,
+        rows,
+        values,
+        perm,
+        late,
+        &mut order[..k6],
+        &mut parents[..k7],
+        &mut l_starts[..k8],
+        &mut l_rows[..k9],
+        &mut l_offsets[..k10],
+        &mut l_values[..k11],
+        &mut diag[..k12],
+        &mut d[..k13],
+        &mut column[..k14],
+    );
+    let in_floats = judge::floats(h, &l_values, &diag, &d, &column);
+    let in_tables = judge::tables(h, &order, &parents, &l_starts, &l_rows, &l_offsets);
+    judge::all(told, in_floats, in_tables, true, true)
+}
+
+// The same for the rest of the scratch: what is told, and what is left in it.
+fn with_scratch(
+    h: &[u32; 44],
+    dims: &[u32],
+    starts: &[u32],
+    rows: &[u32],
+    values: &[f64],
+    perm: &[u32],
+    late: &[u32],
+    order: &mut [u32],
+    parents: &mut [u32],
+    l_starts: &mut [u32],
+    l_rows: &mut [u32],
+    l_offsets: &mut [u32],
+    l_values: &mut [f64],
+    diag: &mut [f64],
+    d: &mut [f64],
+    column: &mut [f64],
+) -> bool {
     let k15 = room::of_blocks(h[15]);
     let k16 = room::of_blocks(h[16]);
     let k17 = room::of_blocks(h[17]);
@@ -118,15 +169,6 @@ fn lending(
     let k24 = room::of_blocks(h[24]);
     let k25 = room::of_blocks(h[25]);
     let k26 = room::of_blocks(h[26]);
-    let mut order = room::lent_blocks();
-    let mut parents = room::lent_blocks();
-    let mut l_starts = room::lent_blocks();
-    let mut l_rows = room::lent_l_blocks();
-    let mut l_offsets = room::lent_l_blocks();
-    let mut l_values = room::lent_l_numbers();
-    let mut diag = room::lent_numbers();
-    let mut d = room::lent_numbers();
-    let mut column = room::lent_numbers();
     let mut inverse = room::lent_blocks();
     let mut sizes = room::lent_blocks();
     let mut count = room::lent_blocks();
@@ -148,15 +190,15 @@ fn lending(
         perm,
         late,
         tol,
-        &mut order[..k6],
-        &mut parents[..k7],
-        &mut l_starts[..k8],
-        &mut l_rows[..k9],
-        &mut l_offsets[..k10],
-        &mut l_values[..k11],
-        &mut diag[..k12],
-        &mut d[..k13],
-        &mut column[..k14],
+        order,
+        parents,
+        l_starts,
+        l_rows,
+        l_offsets,
+        l_values,
+        diag,
+        d,
+        column,
         &mut inverse[..k15],
         &mut sizes[..k16],
         &mut count[..k17],
@@ -171,16 +213,8 @@ fn lending(
         &mut places[..k26],
     );
     let told = matches(h, of(f));
-    let in_floats = judge::floats(h, &l_values, &diag, &d, &column);
-    let in_tables = judge::tables(h, &order, &parents, &l_starts, &l_rows, &l_offsets);
     let in_blocks = judge::scratch_blocks(h, &inverse, &sizes, &count, &stamps, &places);
     let in_starts = judge::scratch_starts(h, &heads, &into, &unit_starts, &d_starts);
     let in_stored = judge::scratch_stored(h, &table, &upper, &bodies);
-    judge::all(
-        judge::all(told, in_floats, in_tables, in_blocks, in_starts),
-        in_stored,
-        true,
-        true,
-        true,
-    )
+    judge::all(told, in_blocks, in_starts, in_stored, true)
 }
