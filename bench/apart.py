@@ -93,7 +93,9 @@ def archive(crate, out):
         words += ["--extern", f"{name}={built}/{name}.rlib"]
     words += ["-L", f"dependency={built}", "-L", f"dependency={own}/rlib", "--antt-project", kit / "logic" / "antt-project.json"]
     words += ["--logic-built", own / "logic-built", "--toolchain", tools, "--crate-type", "staticlib", "-o", out / f"lib{crate}.a"]
-    beside.run([own / "bin" / "rattle", "build"] + words, stdout=subprocess.DEVNULL)
+    made = subprocess.run([str(w) for w in [own / "bin" / "rattle", "build"] + words], capture_output=True, text=True)
+    if made.returncode != 0:
+        sys.exit(f"bench: {crate} could not be compiled: {made.stdout[-800:]}{made.stderr[-800:]}")
     return out / f"lib{crate}.a"
 
 
