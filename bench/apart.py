@@ -28,8 +28,8 @@ KEPT = {
 PARTS = {
     "factor": {
         "block products": ["tiled_product"],
-        "the loops around them": ["row_products", "column_products", "work_column", "reach_products", "reach"],
-        "Q": ["tiled_multiply", "keep_column", "block_product"],
+        "the loops around them and the walk": ["row_products", "work_column", "reach_products", "reach"],
+        "Q and Q d": ["tiled_multiply", "keep_column", "block_product", "column_products"],
         "rows of L solved": ["tiled_right", "finish_column"],
         "decompositions": ["block_diag_ldlt", "dense_ldlt", "dense_rows"],
         "columns loaded": ["load_column"],
@@ -57,7 +57,7 @@ text = subprocess.run([clang, "--no-default-config", "-S", "-emit-llvm", "-O0", 
 for name in kept:
     text, found = re.subn(r'(define internal [^\\n]*@"%s"\\([^\\n]*\\)) #0 ' % re.escape(name), r"\\1 #0 noinline ", text)
     if found != 1:
-        sys.exit("bench: the library has no function " + name)
+        sys.exit("bench/run: the library has no function " + name)
 with open(module + ".ll", "w") as out:
     out.write(text)
 words[words.index("ir") + 1] = module + ".ll"
@@ -95,7 +95,7 @@ def archive(crate, out):
     words += ["--logic-built", own / "logic-built", "--toolchain", tools, "--crate-type", "staticlib", "-o", out / f"lib{crate}.a"]
     made = subprocess.run([str(w) for w in [own / "bin" / "rattle", "build"] + words], capture_output=True, text=True)
     if made.returncode != 0:
-        sys.exit(f"bench: {crate} could not be compiled: {made.stdout[-800:]}{made.stderr[-800:]}")
+        sys.exit(f"bench/run: {crate} could not be compiled: {made.stdout[-800:]}{made.stderr[-800:]}")
     return out / f"lib{crate}.a"
 
 
@@ -123,13 +123,12 @@ def counted(program, part, night, out):
     text = subprocess.run(["callgrind_annotate", "--threshold=100", str(kept)], check=True, capture_output=True, text=True).stdout
     of = {crate: name for name, crates in PARTS[part].items() for crate in crates}
     sums = dict.fromkeys([*PARTS[part], "memory cleared and copied", "all else"], 0)
-    total = 0
-    for number, name in re.findall(r"^\s*([0-9,]+) \([ 0-9.]+%\)\s+\S*?:([^ ]+)(?: \[|$)", text, re.MULTILINE):
-        count = int(number.replace(",", ""))
-        crate = name.split("::")[0]
+    for number, name in re.findall(r"^\s*([0-9,]+) \([ 0-9.]+%\)\s+\S*?:(\S+)", text, re.MULTILINE):
         memory = any(word in name for word in MEMORY)
-        sums["memory cleared and copied" if memory else of.get(crate, "all else")] += count
-        total += count
-    if not total:
-        sys.exit("bench: callgrind_annotate told nothing")
+        sums["memory cleared and copied" if memory else of.get(name.split("::")[0], "all else")] += int(number.replace(",", ""))
+    found = re.search(r"^\s*([0-9,]+) .*PROGRAM TOTALS", text, re.MULTILINE)
+    if not found:
+        sys.exit("bench/run: callgrind_annotate told nothing")
+    total = int(found[1].replace(",", ""))
+    sums["all else"] += total - sum(sums.values())
     return sums, total

@@ -1,9 +1,9 @@
-//! One call of the source's text or of the proved library on a dissected grid or, where one number is told in the place of three, on the
-//! geometric night with hubs of so many blocks; made in a function of its own, `counted`, so that callgrind can count what it executes:
-//! `count rust|ours plan|factor|solve WIDTH HEIGHT DIM|BLOCKS`. Ours factors with a cache; the side `plain`, which has a factor alone,
-//! without one.
+//! One call of the source's text or of the proved library on a dissected grid, on the chain where its height is 1, or, where one number is
+//! told in the place of three, on the geometric night with hubs of so many blocks; made in a function of its own, `counted`, so that
+//! callgrind can count what it executes: `count rust|ours plan|factor|solve WIDTH HEIGHT DIM|BLOCKS`. Ours factors with a cache; the side
+//! `plain`, which has a factor alone, without one.
 use bench::calls::{PlanLent, SolveLent, cache_needed, plan, solve_inplace};
-use bench::nights::{Draw, grid};
+use bench::nights::{Draw, chain, grid};
 use bench::systems::{even, factored, hubs, matrix, ours, ours_with_cache, source_plan, system};
 use nalgebra::DVector;
 use sophus_solver::{IsFactor, ldlt::block_sparse_ldlt};
@@ -19,6 +19,7 @@ fn main() {
     let words: Vec<String> = std::env::args().skip(1).collect();
     let sizes: Vec<usize> = words.iter().skip(2).map(|word| word.parse().expect("no number")).collect();
     let (night, _, dims) = match sizes[..] {
+        [blocks, 1, dim] => even(chain(blocks), dim as u32),
         [width, height, dim] => even(grid(width, height), dim as u32),
         [blocks] => hubs(blocks),
         _ => panic!("count SIDE PART WIDTH HEIGHT DIM, or count SIDE PART BLOCKS"),

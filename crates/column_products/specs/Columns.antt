@@ -12,7 +12,7 @@ use Rattle.tiled_product.specs.Tiled.{timesDiag}
 use Rattle.machine.specs.Machine.{State, Column, columnAt, matProduct, scaled, products}
 use Rattle.block_product.specs.Working.{slot, Apart, Shows}
 
--- q is Q(j) d, L(j, k) of h rows and w columns standing in `values` from o on, if the cache, where it reaches so far, has Q(j) at the same place
+-- L(j, k), of h rows and w columns, stands in `values` from o on. If the cache, where it is long enough, has Q(j) at the same place, then q is Q(j) d.
 abbrev pub ScaledByD : (h w o : ℕ) (values cache unit d q : List Float) → Type 0
 ScaledByD h w o values cache unit d q =
     (o + h * w ≤ length cache → slot o (h * w) cache ≡ matProduct h w w (slot o (h * w) values) unit)

@@ -12,7 +12,7 @@ use Rattle.tiled_product.specs.Tiled.{putDown3, putDown4}
 use Rattle.tiled_right.specs.declared.core.Three.{Three}
 use Rattle.tiled_right.specs.declared.core.Four.{Four}
 
--- x′ is x with `count` rows from `low` on those of w, n columns in all; the rows above them are as they were
+-- `count` rows of x′ from `low` on are those of w, n columns in all, and the rows above them are those of x; of the rows below nothing is said
 pub record RowsSolved (m n : ℕ) (w : List Float) (low count : ℕ) (x x′ : List Float) : Type 0 where
   pub long : length x′ ≡ length x
   pub done : (r c : ℕ) → low ≤ r → r < low + count → c < n → at x′ m r c ≡ at w m r c
@@ -43,7 +43,7 @@ timesThree s by = record { r0 = mul binary64 (s .r0) by; r1 = mul binary64 (s .r
 abbrev pub timesFour : Four → Float → Four
 timesFour s by = record { top = timesThree (s .top) by; r3 = mul binary64 (s .r3) by }
 
--- what they lose by column t of x
+-- they, less their products with column t of x
 module _ (m : ℕ) (x : List Float) (i t : ℕ) (by : Float) where
   abbrev pub loseThree : Three → Three
   loseThree s = record { r0 = lose (s .r0) (at x m i t) by; r1 = lose (s .r1) (at x m (i + 1) t) by; r2 = lose (s .r2) (at x m (i + 2) t) by }
@@ -51,7 +51,7 @@ module _ (m : ℕ) (x : List Float) (i t : ℕ) (by : Float) where
   abbrev pub loseFour : Four → Four
   loseFour s = record { top = loseThree (s .top); r3 = lose (s .r3) (at x m (i + 3) t) by }
 
--- what they become
+-- the same by `count` columns from `first` on, one after the other
 module _ (m n : ℕ) (l x : List Float) (j first : ℕ) (after : Bool) (i count : ℕ) where
   abbrev pub lostThree : Three → Three
   lostThree = steps (λ v. loseThree m x i (first + v) (tied n l j (first + v) after)) count
