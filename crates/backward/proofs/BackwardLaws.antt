@@ -1,5 +1,5 @@
--- The loops of the backward part: `up-none`, `up-more`, `up-all` over the rows of a column; `column-done`, the block written back;
--- `columns-none`, `columns-more`, `columns-all`. Assumes nothing.
+-- The loops of the backward part: `up-none`, `up-more`, `up-all` over the rows of a column; `columns-none`, `columns-more`, `columns-all`.
+-- Assumes nothing.
 use Prim.Native.Nat.{ℕ, _+_, _-_, _*_, _≤_, _<_}
 use mathlib.Core.List.{List}
 use mathlib.Core.Path.{_≡_, refl, sym, ap, subst, _∙_}
@@ -13,12 +13,13 @@ use Rattle.tables.specs.Verdict.{at}
 use Rattle.kernel_vector_transpose.specs.VectorTranspose.{subMatTransposePlusVec}
 use Rattle.machine.specs.Machine.{Column}
 use Rattle.block_product.specs.Working.{slot}
+use Rattle.block_product.proofs.SlotLaws.{slot-length}
 use Rattle.layout.specs.Layout.{Tables, side, startOf, stopOf, RowsLaid}
-use Rattle.solution.specs.Solution.{Vector, through, backwardRow, backwardColumn, backwardTurn, backward}
+use Rattle.solution.specs.Solution.{Vector, put, through, backwardRow, backwardTurn, backward}
 use Rattle.solution.specs.Flat.{HoldsRows, BlocksLaid, ShowsVector}
-use Rattle.solution.proofs.RowLaws.{through-none, through-more}
-use Rattle.solution.proofs.VectorLaws.{shows-within}
-use Rattle.backward.specs.Backward.{Backwards, BackwardsColumn, BackwardsRows}
+use Rattle.solution.proofs.RowLaws.{through-none, through-more, lost-transpose-length}
+use Rattle.solution.proofs.VectorLaws.{block-inside, shows-within, own-block, other-block, same-block, written-again}
+use Rattle.backward.specs.Backward.{Backwards, BackwardsColumn}
 
 module _ (t : Tables) (starts : List ℕ) (lValues : List Float) where
   abbrev n : ℕ
@@ -26,41 +27,43 @@ module _ (t : Tables) (starts : List ℕ) (lValues : List Float) where
 
   -- ---- the rows of column j
 
-  module _ (j : ℕ) (y own₀ : List Float) where
-    -- the block with the rows before place u done
+  module _ (j : ℕ) (y₀ : List Float) where
+    -- block j with the rows before place u done
+    abbrev after : (ℕ → Column) → Vector → ℕ → List Float
+    after col x u = through (backwardRow (side t) col x j) (slot (startOf t j) (u - startOf t j) (t .lRows)) (x j)
+
+    -- y shows the vector with it
     abbrev pub UpTo : List Float → ℕ → Type 0
-    UpTo own u =
-        (col : ℕ → Column) → HoldsRows t lValues n col → (x : Vector) → ShowsVector (t .sizes) starts y x
-        → own ≡ through (backwardRow (side t) col x j) (slot (startOf t j) (u - startOf t j) (t .lRows)) own₀
+    UpTo y u = (col : ℕ → Column) → HoldsRows t lValues n col → (x : Vector) → ShowsVector (t .sizes) starts y₀ x → ShowsVector (t .sizes) starts y (put j (after col x u) x)
 
-    pub up-none : UpTo own₀ (startOf t j)
-    up-none col held x shown = sym (through-none (backwardRow (side t) col x j) (t .lRows) (startOf t j) own₀)
+    pub up-none : UpTo y₀ (startOf t j)
+    up-none col held x shown k h =
+        shown k h ∙ sym (same-block j k x) ∙ ap (λ (z : List Float). put j z x k) (sym (through-none (backwardRow (side t) col x j) (t .lRows) (startOf t j) (x j)))
 
-    pub up-more : {v c : ℕ} (own own′ : List Float) (u : ℕ) → RowsLaid t n v c → j < n → startOf t j ≤ u → u < stopOf t j → length own ≡ side t j
-        → own′ ≡ subMatTransposePlusVec (side t (at (t .lRows) u)) (length own) own (slot (at (t .lOffsets) u) (side t (at (t .lRows) u) * length own) lValues) (slot (at starts (at (t .lRows) u)) (side t (at (t .lRows) u)) y)
-        → UpTo own u → UpTo own′ (u + 1)
-    up-more own own′ u rows h lo hi wide e up col held x shown =
+    pub up-more : {v c : ℕ} (y y′ : List Float) (u : ℕ) → RowsLaid t n v c → BlocksLaid (t .sizes) starts (length y) → j < n → startOf t j ≤ u → u < stopOf t j
+        → y′ ≡ within (at starts j) (side t j) (λ z. subMatTransposePlusVec (side t (at (t .lRows) u)) (side t j) z (slot (at (t .lOffsets) u) (side t (at (t .lRows) u) * side t j) lValues) (slot (at starts (at (t .lRows) u)) (side t (at (t .lRows) u)) y)) y
+        → UpTo y u → UpTo y′ (u + 1)
+    up-more y y′ u rows laid h lo hi e up col held x shown k hk =
         let i = at (t .lRows) u in
         let r = rows .row j u h lo hi in
-        e ∙ ap (λ (w : ℕ). subMatTransposePlusVec (side t i) w own (slot (at (t .lOffsets) u) (side t i * w) lValues) (slot (at starts i) (side t i) y)) wide
-        ∙ ap (λ (b : List Float). subMatTransposePlusVec (side t i) (side t j) own b (slot (at starts i) (side t i) y)) (held .bodies j u h lo hi)
-        ∙ ap (subMatTransposePlusVec (side t i) (side t j) own (col j .body i)) (shown i (r .1))
-        ∙ ap (λ (o : List Float). subMatTransposePlusVec (side t i) (side t j) o (col j .body i) (x i)) (up col held x shown)
-        ∙ sym (through-more (backwardRow (side t) col x j) (t .lRows) (startOf t j) u own₀ lo (omega (arith, rows .column j h)))
+        let now = up col held x shown in
+        let was = after col x u in
+        let body = slot (at (t .lOffsets) u) (side t i * side t j) lValues in
+        let f : List Float → List Float = λ z. subMatTransposePlusVec (side t i) (side t j) z body (slot (at starts i) (side t i) y) in
+        let same : f (put j was x j) ≡ backwardRow (side t) col x j i was =
+        ap f (own-block j was x)
+        ∙ ap (λ (b : List Float). subMatTransposePlusVec (side t i) (side t j) was b (slot (at starts i) (side t i) y)) (held .bodies j u h lo hi)
+        ∙ ap (subMatTransposePlusVec (side t i) (side t j) was (col j .body i)) (now i (r .1) ∙ other-block j i was x (λ q. absurd (omega arith))) in
+        let keeps = lost-transpose-length (side t i) (side t j) (slot (at starts j) (side t j) y) body (slot (at starts i) (side t i) y) ∙ slot-length y (at starts j) (side t j) (block-inside laid j h) in
+        ap (slot (at starts k) (side t k)) e
+        ∙ shows-within y laid j f (put j was x) (backwardRow (side t) col x j i was) h keeps same now k hk
+        ∙ written-again j k (backwardRow (side t) col x j i was) was x
+        ∙ ap (λ (z : List Float). put j z x k) (sym (through-more (backwardRow (side t) col x j) (t .lRows) (startOf t j) u (x j) lo (omega (arith, rows .column j h))))
 
-    pub up-all : (own : List Float) (u : ℕ) → j < n → u ≡ stopOf t j → UpTo own u → BackwardsRows t starts lValues j y own₀ own
-    up-all own u h e up col held x shown =
-        up col held x shown
-        ∙ ap (λ (l : List ℕ). through (backwardRow (side t) col x j) l own₀) (ap (λ (m : ℕ). slot (startOf t j) (m - startOf t j) (t .lRows)) e ∙ sym (held .rows j h))
-
-  -- ---- a column: its block is written back
-
-  pub column-done : (j : ℕ) (y y′ own own′ : List Float) → BlocksLaid (t .sizes) starts (length y) → j < n → length own′ ≡ side t j → own ≡ slot (at starts j) (side t j) y
-      → BackwardsRows t starts lValues j y own own′ → y′ ≡ within (at starts j) (side t j) (λ z. own′) y → BackwardsColumn t starts lValues j y y′
-  column-done j y y′ own own′ laid h long o rows e col held x shown =
-      subst (λ (l : List Float). ShowsVector (t .sizes) starts l (backwardColumn (side t) col j x)) (sym e)
-      (shows-within y laid j (λ z. own′) x (through (backwardRow (side t) col x j) (col j .rows) (x j)) h long
-      (rows col held x shown ∙ ap (through (backwardRow (side t) col x j) (col j .rows)) (o ∙ shown j h)) shown)
+    pub up-all : (y : List Float) (u : ℕ) → j < n → u ≡ stopOf t j → UpTo y u → BackwardsColumn t starts lValues j y₀ y
+    up-all y u h e up col held x shown =
+        let r = ap (λ (m : ℕ). slot (startOf t j) (m - startOf t j) (t .lRows)) e ∙ sym (held .rows j h) in
+        subst (λ (l : List ℕ). ShowsVector (t .sizes) starts y (put j (through (backwardRow (side t) col x j) l (x j)) x)) r (up col held x shown)
 
   -- ---- the columns
 

@@ -2,7 +2,6 @@
 -- the one after it. Assumes nothing.
 use Prim.Native.Nat.{ℕ}
 use mathlib.Core.List.{List}
-use mathlib.Core.Path.{_≡_}
 use lib.Ieee.{Float}
 use lib.ListN.{length}
 use Rattle.machine.specs.Machine.{Column}
@@ -20,9 +19,3 @@ module _ (t : Tables) (starts : List ℕ) (lValues : List Float) where
   abbrev pub ForwardsColumn : ℕ → (y y′ : List Float) → Type 0
   ForwardsColumn j y y′ =
       (col : ℕ → Column) → HoldsRows t lValues (length (t .sizes)) col → (x : Vector) → ShowsVector (t .sizes) starts y x → ShowsVector (t .sizes) starts y′ (forwardColumn (side t) col j x)
-
-  -- the same where `own` is its block
-  abbrev pub ForwardsRows : ℕ → (own y y′ : List Float) → Type 0
-  ForwardsRows j own y y′ =
-      (col : ℕ → Column) → HoldsRows t lValues (length (t .sizes)) col → (x : Vector) → ShowsVector (t .sizes) starts y x → own ≡ x j
-      → ShowsVector (t .sizes) starts y′ (forwardColumn (side t) col j x)

@@ -1,6 +1,5 @@
 // The forward part of the solve, where the factor's tables are known to be good. y holds the vector by new number, block k from starts[k] on.
-use kernel_vector::core::sub_mat_plus_vec_core;
-use scalar::core::copy;
+use tiled_vector::core::sub_rows;
 ghost use mathlib.Core.Path.{_≡_};
 ghost use Prim.Native.Nat.{_*_, _<_};
 ghost use lib.ListN.{length};
@@ -10,7 +9,7 @@ ghost use Rattle.kernel_vector.specs.Vector.{subMatPlusVec};
 ghost use Rattle.block_product.specs.Working.{slot};
 ghost use Rattle.layout.specs.Layout.{tables, RowsLaid, workNeed};
 ghost use Rattle.solution.specs.Flat.{BlocksLaid, RowFits};
-ghost use Rattle.forward.specs.Forward.{Forwards, ForwardsColumn, ForwardsRows};
+ghost use Rattle.forward.specs.Forward.{Forwards, ForwardsColumn};
 
 // All columns, ascending.
 pub fn forward(
@@ -30,7 +29,7 @@ pub fn forward(
     }
 }
 
-// Block i loses L(i, j) y(j), for each row i of column j, ascending. y(j) is copied first: no row of the column changes it.
+// Block i loses L(i, j) y(j), for each row i of column j, ascending. No row of the column changes y(j).
 fn forward_column(
     sizes: &[u32],
     starts: &[u32],
@@ -46,64 +45,32 @@ fn forward_column(
 {
     let w = sizes[j] as usize;
     let s = starts[j] as usize;
-    let s_end = s + w;
-    let mut own = [0.0; 16];
-    copy(&y[s..s_end], &mut own[..w]);
-    forward_rows(
-        sizes,
-        starts,
-        l_starts,
-        l_rows,
-        l_offsets,
-        j,
-        &own[..w],
-        l_values,
-        y,
-    );
-}
-
-// The same with y(j) in `own`.
-fn forward_rows(
-    sizes: &[u32],
-    starts: &[u32],
-    l_starts: &[u32],
-    l_rows: &[u32],
-    l_offsets: &[u32],
-    j: usize,
-    own: &[f64],
-    l_values: &[f64],
-    y: &mut [f64],
-)
-    requires { ⌜ RowsLaid (tables (now sizes) (now «l_starts») (now «l_rows») (now «l_offsets»)) (length (now sizes)) (length (now «l_values»)) (workNeed (now sizes)) × BlocksLaid (now sizes) (now starts) (length (now y)) × (j < length (now sizes)) × (length (now own) ≡ at (now sizes) j) ⌝ }
-    ensures { λ _. ⌜ ForwardsRows (tables (now (sizes .entry)) (now («l_starts» .entry)) (now («l_rows» .entry)) (now («l_offsets» .entry))) (now (starts .entry)) (now («l_values» .entry)) j (now (own .entry)) (now (y .entry)) (now (y .exit)) ⌝ }
-{
     let from = l_starts[j] as usize;
     let end = l_starts[j + 1] as usize;
     for u in from..end {
-        forward_row(sizes, starts, l_rows, l_offsets, u, own, l_values, y);
+        forward_row(sizes, starts, l_rows, l_offsets, s, w, u, l_values, y);
     }
 }
 
-// The row at place u of the tables.
+// The row at place u of the tables, of a column whose block has the w numbers of y from s on.
 fn forward_row(
     sizes: &[u32],
     starts: &[u32],
     l_rows: &[u32],
     l_offsets: &[u32],
+    s: usize,
+    w: usize,
     u: usize,
-    own: &[f64],
     l_values: &[f64],
     y: &mut [f64],
 )
-    requires { ⌜ RowFits (now sizes) (now starts) (now «l_rows») (now «l_offsets») (length (now own)) u (length (now «l_values»)) (length (now y)) ⌝ }
-    ensures { λ _. ⌜ now (y .exit) ≡ within (at (now (starts .entry)) (at (now («l_rows» .entry)) u)) (at (now (sizes .entry)) (at (now («l_rows» .entry)) u)) (λ z. subMatPlusVec (at (now (sizes .entry)) (at (now («l_rows» .entry)) u)) (length (now (own .entry))) z (slot (at (now («l_offsets» .entry)) u) (at (now (sizes .entry)) (at (now («l_rows» .entry)) u) * length (now (own .entry))) (now («l_values» .entry))) (now (own .entry))) (now (y .entry)) ⌝ }
+    requires { ⌜ RowFits (now sizes) (now starts) (now «l_rows») (now «l_offsets») s w u (length (now «l_values»)) (length (now y)) ⌝ }
+    ensures { λ _. ⌜ now (y .exit) ≡ within (at (now (starts .entry)) (at (now («l_rows» .entry)) u)) (at (now (sizes .entry)) (at (now («l_rows» .entry)) u)) (λ z. subMatPlusVec (at (now (sizes .entry)) (at (now («l_rows» .entry)) u)) w z (slot (at (now («l_offsets» .entry)) u) (at (now (sizes .entry)) (at (now («l_rows» .entry)) u) * w) (now («l_values» .entry))) (slot s w (now (y .entry)))) (now (y .entry)) ⌝ }
 {
-    let w = own.len();
     let i = l_rows[u] as usize;
     let h = sizes[i] as usize;
-    let s = starts[i] as usize;
-    let s_end = s + h;
+    let t = starts[i] as usize;
     let o = l_offsets[u] as usize;
     let o_end = o + h * w;
-    sub_mat_plus_vec_core(h, w, &mut y[s..s_end], &l_values[o..o_end], own);
+    sub_rows(h, w, &l_values[o..o_end], y, s, t);
 }

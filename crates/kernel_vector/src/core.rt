@@ -16,7 +16,7 @@ pub fn sub_mat_plus_vec_core(m: usize, n: usize, y: &mut [f64], a: &[f64], b: &[
 }
 
 // The sum of row r's products with b.
-fn row_sum(m: usize, n: usize, a: &[f64], b: &[f64], r: usize) -> f64
+pub fn row_sum(m: usize, n: usize, a: &[f64], b: &[f64], r: usize) -> f64
     requires { ⌜ (r < m) × (length (now a) ≡ m * n) × (length (now b) ≡ n) ⌝ }
     ensures { λ s. ⌜ s ≡ rowSum m n (now (a .entry)) (now (b .entry)) r ⌝ }
 {

@@ -16,7 +16,7 @@ pub fn sub_mat_transpose_plus_vec_core(m: usize, n: usize, x: &mut [f64], a: &[f
 }
 
 // The sum of column c's products with z.
-fn column_sum(m: usize, n: usize, a: &[f64], z: &[f64], c: usize) -> f64
+pub fn column_sum(m: usize, n: usize, a: &[f64], z: &[f64], c: usize) -> f64
     requires { ⌜ (c < n) × (length (now a) ≡ m * n) × (length (now z) ≡ m) ⌝ }
     ensures { λ s. ⌜ s ≡ columnSum m (now (a .entry)) (now (z .entry)) c ⌝ }
 {

@@ -1,5 +1,5 @@
 -- Rows one after the other: `through-none` where a loop over the rows of a column begins, `through-more` one row more; `steps-length` and
--- `lost-length`: a list is as long after a loop, and a block after a row. Assumes nothing.
+-- `lost-length`, `lost-transpose-length`: a list is as long after a loop, and a block after a row. Assumes nothing.
 use Prim.Native.Nat.{ℕ, zero, suc, _+_, _-_, _≤_, _<_}
 use mathlib.Core.List.{List, [], _∷_, _++_}
 use mathlib.Core.Path.{_≡_, refl, ap, _∙_}
@@ -9,6 +9,7 @@ use lib.ListN.{length, drop, length-set, length-drop}
 use lib.Seq.{take-suc, getD-drop}
 use Rattle.scalar.specs.Loop.{steps}
 use Rattle.kernel_vector.specs.Vector.{subMatPlusVec}
+use Rattle.kernel_vector_transpose.specs.VectorTranspose.{subMatTransposePlusVec}
 use Rattle.tables.specs.Verdict.{at}
 use Rattle.block_product.specs.Working.{slot}
 use Rattle.solution.specs.Solution.{through}
@@ -44,3 +45,7 @@ steps-length f h (suc n) a = h n (steps f n a) ∙ steps-length f h n a
 pub lost-length : (m n : ℕ) (y a b : List Float) → length (subMatPlusVec m n y a b) ≡ length y
 unfolding subMatPlusVec
 lost-length m n y a b = steps-length _ (λ r y. length-set y _ _) m y
+
+pub lost-transpose-length : (m n : ℕ) (x a z : List Float) → length (subMatTransposePlusVec m n x a z) ≡ length x
+unfolding subMatTransposePlusVec
+lost-transpose-length m n x a z = steps-length _ (λ c x. length-set x _ _) n x

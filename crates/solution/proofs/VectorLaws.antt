@@ -2,22 +2,20 @@
 --     blocks-laid        the blocks lie one behind the other, from the dimensions
 --     block-inside       a block lies in the list
 --     shows-within       a write of one block
---     other-block        a write of one block leaves the others
+--     own-block, other-block, same-block, written-again   a block put into a vector
 --     shows-blocks       a flat list shows its own blocks
 --     shows-flat         the flat list is the vector's
 --     row-fits           what a row needs, from how the blocks lie
---     held-long, held-back, held-all   the first numbers of a local array, written
 -- Assumes nothing.
 use Prim.Native.Nat.{ℕ, _+_, _≤_, _<_}
-use mathlib.Core.List.{List, _++_}
+use mathlib.Core.List.{List}
 use mathlib.Core.Logic.{_⊎_, inl, inr, ⊎-elim}
-use mathlib.Core.Path.{_≡_, ap, _∙_}
+use mathlib.Core.Path.{_≡_, sym, ap, _∙_}
 use native.Mathlib.Decide.{decLt}
 use native.Mathlib.Omega.{arith}
 use lib.Dec.{T, eqb, eqb→eq, eqb-refl}
 use lib.Ieee.{Float}
-use lib.ListN.{length, take, drop}
-use lib.Seq.{length-take-le, length-front, take-at}
+use lib.ListN.{length}
 use Rattle.scalar.specs.Block.{within}
 use Rattle.graph.specs.Sets.{from}
 use Rattle.graph.proofs.SetLaws.{decide, true-of, false-of, eqb-of, from-elim}
@@ -53,6 +51,15 @@ module _ {sizes starts : List ℕ} {m : ℕ} (laid : BlocksLaid sizes starts m) 
 pub other-block : (i k : ℕ) (z : List Float) (x : Vector) → (k ≡ i → ⊥) → put i z x k ≡ x k
 other-block i k z x ne = rw (false-of (eqb k i) (λ t. ne (eqb→eq k i t)))
 
+pub own-block : (i : ℕ) (z : List Float) (x : Vector) → put i z x i ≡ z
+own-block i z x = rw (true-of (eqb i i) (eqb-refl i))
+
+pub same-block : (i k : ℕ) (x : Vector) → put i (x i) x k ≡ x k
+same-block i k x = ⊎-elim (λ t. rw (true-of (eqb k i) t) (ap x (sym (eqb→eq k i t)))) (λ t. rw (false-of (eqb k i) t)) (decide (eqb k i))
+
+pub written-again : (i k : ℕ) (z w : List Float) (x : Vector) → put i z (put i w x) k ≡ put i z x k
+written-again i k z w x = ⊎-elim (λ t. rw (true-of (eqb k i) t)) (λ t. rw (false-of (eqb k i) t)) (decide (eqb k i))
+
 module _ {sizes starts : List ℕ} (y : List Float) (laid : BlocksLaid sizes starts (length y)) where
   pub shows-within : (i : ℕ) (f : List Float → List Float) (x : Vector) (z : List Float) → i < length sizes → length (f (slot (at starts i) (at sizes i) y)) ≡ at sizes i
       → f (x i) ≡ z → ShowsVector sizes starts y x → ShowsVector sizes starts (within (at starts i) (at sizes i) f y) (put i z x)
@@ -84,25 +91,14 @@ module _ (sizes : List ℕ) (y : List Float) where
 -- ---- a row
 
 module _ (t : Tables) {starts : List ℕ} {values c m : ℕ} (rows : RowsLaid t (length (t .sizes)) values c) (laid : BlocksLaid (t .sizes) starts m) where
-  pub row-fits : (j u : ℕ) → j < length (t .sizes) → startOf t j ≤ u → u < stopOf t j → RowFits (t .sizes) starts (t .lRows) (t .lOffsets) (side t j) u values m
+  pub row-fits : (j u : ℕ) → j < length (t .sizes) → startOf t j ≤ u → u < stopOf t j → RowFits (t .sizes) starts (t .lRows) (t .lOffsets) (at starts j) (side t j) u values m
   row-fits j u h lo hi =
       let r = rows .row j u h lo hi in
       let in′ = rows .column j h in
       record {
         known = omega (arith, rows .count);
         row = omega (arith, laid .count);
+        behind = laid .apart j (at (t .lRows) u) (r .0) (omega arith);
         block = block-inside laid (at (t .lRows) u) (r .1);
         body = omega (arith, rows .body j u (length (t .lRows)) h lo hi (omega arith) (omega arith), rows .bodies);
       }
-
--- ---- the first w numbers of a local array z are written: `own` stands there
-
-module _ (w : ℕ) (z own : List Float) (fits : w ≤ length z) (kept : length own ≡ length (take w z)) where
-  pub held-long : length own ≡ w
-  held-long = kept ∙ length-take-le w z fits
-
-  pub held-back : take w (own ++ drop w z) ≡ own
-  held-back = take-at own (drop w z) w held-long
-
-  pub held-all : length (own ++ drop w z) ≡ length z
-  held-all = length-front z own w kept

@@ -55,9 +55,11 @@ pub record BlocksLaid (sizes starts : List ℕ) (m : ℕ) : Type 0 where
 abbrev pub ShowsVector : (sizes starts : List ℕ) → List Float → Vector → Type 0
 ShowsVector sizes starts y x = (k : ℕ) → k < length sizes → slot (at starts k) (at sizes k) y ≡ x k
 
--- what a row needs: the place u of L's tables is there, the row's block lies in a vector of m numbers, and its body, of width w, in L's values
-pub record RowFits (sizes starts lRows lOffsets : List ℕ) (w u values m : ℕ) : Type 0 where
+-- what a row needs: the place u of L's tables is there; the row's block lies in a vector of m numbers, behind the w numbers from s on; and its
+-- body, of width w, lies in L's values
+pub record RowFits (sizes starts lRows lOffsets : List ℕ) (s w u values m : ℕ) : Type 0 where
   pub known : (u < length lRows) × (u < length lOffsets)
   pub row : (at lRows u < length sizes) × (at lRows u < length starts)
+  pub behind : s + w ≤ at starts (at lRows u)
   pub block : at starts (at lRows u) + at sizes (at lRows u) ≤ m
   pub body : at lOffsets u + at sizes (at lRows u) * w ≤ values

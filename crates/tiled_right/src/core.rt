@@ -13,16 +13,16 @@ ghost use Rattle.dense_solve_right.specs.SolveRight.{ldltRightMatsolve};
 ghost use Rattle.tiled_right.specs.TiledRight.{RowsSolved, tied, threeAt, fourAt, timesThree, timesFour, loseThree, loseFour, lost, lostThree, lostFour, putThree, putFour};
 
 // Three entries of a column, one below the other.
-struct Three {
-    r0: f64,
-    r1: f64,
-    r2: f64,
+pub struct Three {
+    pub r0: f64,
+    pub r1: f64,
+    pub r2: f64,
 }
 
 // Four of them.
-struct Four {
-    top: Three,
-    r3: f64,
+pub struct Four {
+    pub top: Three,
+    pub r3: f64,
 }
 
 // x becomes the block `from`, of m rows and n columns, solved from the right by the unit factor l and d: several rows at a time.
@@ -214,7 +214,7 @@ fn turn3(m: usize, n: usize, x: &[f64], i: usize, t: usize, by: f64, s: Three) -
 }
 
 // Four entries of column j of y, from row i on.
-fn four_at(m: usize, n: usize, y: &[f64], i: usize, j: usize) -> Four
+pub fn four_at(m: usize, n: usize, y: &[f64], i: usize, j: usize) -> Four
     requires { ⌜ (i + 4 ≤ m) × (j < n) × (length (now y) ≡ m * n) ⌝ }
     ensures { λ r. ⌜ r ≡ fourAt (λ q. at (now (y .entry)) m q j) i ⌝ }
 {
@@ -225,7 +225,7 @@ fn four_at(m: usize, n: usize, y: &[f64], i: usize, j: usize) -> Four
 }
 
 // Three entries of column j of y, from row i on.
-fn three_at(m: usize, n: usize, y: &[f64], i: usize, j: usize) -> Three
+pub fn three_at(m: usize, n: usize, y: &[f64], i: usize, j: usize) -> Three
     requires { ⌜ (i + 3 ≤ m) × (j < n) × (length (now y) ≡ m * n) ⌝ }
     ensures { λ r. ⌜ r ≡ threeAt (λ q. at (now (y .entry)) m q j) i ⌝ }
 {

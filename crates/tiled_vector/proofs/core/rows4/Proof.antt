@@ -1,0 +1,27 @@
+-- `tiled_vector::core::rows4` meets its contract. Assumes nothing.
+use native.Mathlib.Nat.{add-sub-cancel-left}
+use borrow.Author.Needs.{needs}
+use Rattle.tiled_vector.proofs.core.rows4.Statement.{statement}
+use Rattle.tiled_vector.proofs.core.rows4.Tie as tie
+
+returns : tie.Need-returns
+returns c = rw (c .before .before .less4 .ensures, c .before .before .before .before .row-sums4 .ensures, add-sub-cancel-left, add-sub-cancel-left)
+
+pub rows4-spec : {M : Type 1} → statement M
+rows4-spec =
+    tie.close
+    (tie.spec
+    (λ c. search needs)
+    (λ c. search needs)
+    (λ c. search needs)
+    (λ c. search needs)
+    (λ c. search needs)
+    (λ c. search needs)
+    (λ c κs. search needs)
+    (λ c. search needs)
+    (λ c. search needs)
+    (λ c. search needs)
+    (λ c. search needs)
+    (λ c κs. search needs)
+    (λ c. search needs)
+    returns)
