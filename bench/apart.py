@@ -10,6 +10,10 @@ import beside
 
 # the functions that are kept apart, by the archive that has them
 KEPT = {
+    "plan_abi": [
+        "checks::check_plan", "analysis::core::permute", "elimination_tree::core::new_core", "symbolic::core::counts",
+        "symbolic::core::fill", "reach::core::scan", "scratch::core::clear_plan",
+    ],
     "factor_abi": [
         "checks::check_system", "analysis::core::analyze", "analysis::core::store", "factor_setup::core::write_tables",
         "reach::core::scan", "load_column::core::load_column", "work_column::core::work_column", "row_products::core::apply_rows",
@@ -26,6 +30,13 @@ KEPT = {
 
 # what a function is counted as, by its crate; the others, and what is joined into the exported call, are "all else"
 PARTS = {
+    "plan": {
+        "walks of the tree": ["reach"],
+        "rows counted, and rows stored": ["symbolic"],
+        "the tree": ["elimination_tree"],
+        "the permuted pattern": ["analysis", "pattern", "order"],
+        "checks": ["checks", "tables", "columns"],
+    },
     "factor": {
         "block products": ["tiled_product"],
         "the loops around them and the walk": ["row_products", "work_column", "reach_products", "reach"],

@@ -66,6 +66,23 @@ pub fn arrow(n: usize) -> Night {
     arrow
 }
 
+/// So many blocks, each number once, in an order that is drawn.
+pub fn drawn(n: usize, draw: &mut Draw) -> Vec<usize> {
+    let mut perm: Vec<usize> = (0..n).collect();
+    for k in (1..n).rev() {
+        perm.swap(k, draw.below(k + 1));
+    }
+    perm
+}
+
+/// As many links as blocks, drawn, and the order drawn too.
+pub fn random(n: usize) -> Night {
+    let mut draw = Draw(n as u64);
+    let perm = drawn(n, &mut draw);
+    let links = (0..n).map(|_| (draw.below(n), draw.below(n))).filter(|(a, b)| a != b).collect();
+    Night { name: "random, drawn order", n, links, perm }
+}
+
 /// The tables of A, every diagonal block stored.
 pub fn tables(night: &Night) -> (Vec<u32>, Vec<u32>) {
     let mut columns: Vec<Vec<u32>> = (0..night.n as u32).map(|k| vec![k]).collect();

@@ -152,9 +152,8 @@ fn accepted(system: &factors::Night, lent: &mut FactorLent, cache: Option<&mut [
     told
 }
 
-/// The proved factor in buffers that have exactly their needs, and the counts of L's blocks, its numbers and the products.
-pub fn factored(system: &factors::Night) -> (FactorLent, [u64; 3]) {
-    let t = &system.tables;
+/// The counts of L's blocks, its numbers and the products, from the proved plan.
+pub fn planned(t: &Tables) -> [u64; 3] {
     let mut told = [0; 3];
     let mut number = plan(t, &mut PlanLent::needed(t, 0), &mut told);
     if number == 11 {
@@ -162,7 +161,13 @@ pub fn factored(system: &factors::Night) -> (FactorLent, [u64; 3]) {
         number = plan(t, &mut PlanLent::needed(t, told[1]), &mut told);
     }
     assert_eq!(number, 0, "refused: {told:?}");
-    let mut lent = FactorLent::needed(t, told[0], told[1]);
+    told
+}
+
+/// The proved factor in buffers that have exactly their needs, and the same counts.
+pub fn factored(system: &factors::Night) -> (FactorLent, [u64; 3]) {
+    let told = planned(&system.tables);
+    let mut lent = FactorLent::needed(&system.tables, told[0], told[1]);
     let told = ours(system, &mut lent);
     (lent, told)
 }

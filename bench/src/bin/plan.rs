@@ -1,6 +1,6 @@
 //! Times the source's plan and the proved one beside each other, on the same patterns and orders, in one run.
 use bench::calls::{PlanLent, plan};
-use bench::nights::{Draw, Night, arrow, chain, grid, tables, time};
+use bench::nights::{Night, arrow, chain, grid, random, tables, time};
 use bench::plans::{NONE, Tables, matrix};
 use bench::systems::source_plan;
 use sophus_solver::ldlt::{EliminationTree, block_sparse_ldlt};
@@ -15,20 +15,14 @@ const DIM: usize = 3;
 
 fn nights(width: usize, height: usize) -> Vec<Night> {
     let n = width * height;
-    let natural: Vec<usize> = (0..n).collect();
-    let mut draw = Draw(n as u64);
-    let mut drawn = natural.clone();
-    for k in (1..n).rev() {
-        drawn.swap(k, draw.below(k + 1));
-    }
-    let random = (0..n).map(|_| (draw.below(n), draw.below(n))).filter(|(a, b)| a != b).collect();
+    let random = random(n);
     vec![
-        Night { name: "grid, row by row", perm: natural, ..grid(width, height) },
+        Night { name: "grid, row by row", perm: (0..n).collect(), ..grid(width, height) },
         grid(width, height),
-        Night { name: "random, drawn order", n, links: random, perm: drawn.clone() },
         chain(n),
-        Night { name: "chain, drawn order", perm: drawn, ..chain(n) },
+        Night { name: "chain, drawn order", perm: random.perm.clone(), ..chain(n) },
         arrow(n),
+        random,
     ]
 }
 
