@@ -110,39 +110,25 @@ fn row_sums3(h: usize, w: usize, a: &[f64], b: &[f64], r: usize) -> Three
 
 // ---- columns
 
-// The w numbers of y from s on lose Aᵀ times the h numbers from t on, which stand behind them.
+// The w numbers of y from s on lose Aᵀ times the h numbers from t on, which stand behind them. Three at a time and no more: four columns side
+// by side are no faster where A is near, and slower where it has to come from far.
 pub fn sub_columns(h: usize, w: usize, a: &[f64], y: &mut [f64], s: usize, t: usize)
     requires { ⌜ (length (now a) ≡ h * w) × (s + w ≤ t) × (t + h ≤ length (now y)) ⌝ }
     ensures { λ _. ⌜ now (y .exit) ≡ within s w (λ z. subMatTransposePlusVec h w z (now (a .entry)) (slot t h (now (y .entry)))) (now (y .entry)) ⌝ }
 {
     let mut c: usize = 0;
     while c < w {
-        let tile = height(w - c);
-        if tile == 4 {
-            columns4(h, w, a, y, s, t, c);
-            c += 4;
-        } else if tile == 3 {
-            columns3(h, w, a, y, s, t, c);
-            c += 3;
-        } else {
+        if w - c < 3 {
             column(h, w, a, y, s, t, c);
             c += 1;
+        } else {
+            columns3(h, w, a, y, s, t, c);
+            c += 3;
         }
     }
 }
 
-// Four of them, from c on.
-fn columns4(h: usize, w: usize, a: &[f64], y: &mut [f64], s: usize, t: usize, c: usize)
-    requires { ⌜ (c + 4 ≤ w) × (length (now a) ≡ h * w) × (s + w ≤ t) × (t + h ≤ length (now y)) ⌝ }
-    ensures { λ _. ⌜ now (y .exit) ≡ within s w (lessFour c (fourAt (columnSum h (now (a .entry)) (slot t h (now (y .entry)))) c)) (now (y .entry)) ⌝ }
-{
-    let s_end = s + w;
-    let t_end = t + h;
-    let q = column_sums4(h, w, a, &y[t..t_end], c);
-    less4(&mut y[s..s_end], c, q);
-}
-
-// Three of them.
+// Three of them, from c on.
 fn columns3(h: usize, w: usize, a: &[f64], y: &mut [f64], s: usize, t: usize, c: usize)
     requires { ⌜ (c + 3 ≤ w) × (length (now a) ≡ h * w) × (s + w ≤ t) × (t + h ≤ length (now y)) ⌝ }
     ensures { λ _. ⌜ now (y .exit) ≡ within s w (lessThree c (threeAt (columnSum h (now (a .entry)) (slot t h (now (y .entry)))) c)) (now (y .entry)) ⌝ }
@@ -164,26 +150,7 @@ fn column(h: usize, w: usize, a: &[f64], y: &mut [f64], s: usize, t: usize, c: u
     less1(&mut y[s..s_end], c, q);
 }
 
-// The sums of four columns' products with b, from column c on, held in locals while r ascends.
-fn column_sums4(h: usize, w: usize, a: &[f64], b: &[f64], c: usize) -> Four
-    requires { ⌜ (c + 4 ≤ w) × (length (now a) ≡ h * w) × (length (now b) ≡ h) ⌝ }
-    ensures { λ q. ⌜ q ≡ fourAt (columnSum h (now (a .entry)) (now (b .entry))) c ⌝ }
-{
-    let mut q = Four {
-        top: Three {
-            r0: 0.0,
-            r1: 0.0,
-            r2: 0.0,
-        },
-        r3: 0.0,
-    };
-    for r in 0..h {
-        q = gain4(four_across(h, w, a, r, c), b[r], q);
-    }
-    q
-}
-
-// The sums of three.
+// The sums of three columns' products with b, from column c on, held in locals while r ascends.
 fn column_sums3(h: usize, w: usize, a: &[f64], b: &[f64], c: usize) -> Three
     requires { ⌜ (c + 3 ≤ w) × (length (now a) ≡ h * w) × (length (now b) ≡ h) ⌝ }
     ensures { λ q. ⌜ q ≡ threeAt (columnSum h (now (a .entry)) (now (b .entry))) c ⌝ }
@@ -199,18 +166,7 @@ fn column_sums3(h: usize, w: usize, a: &[f64], b: &[f64], c: usize) -> Three
     q
 }
 
-// Four entries of row r of A, from column c on.
-fn four_across(h: usize, w: usize, a: &[f64], r: usize, c: usize) -> Four
-    requires { ⌜ (r < h) × (c + 4 ≤ w) × (length (now a) ≡ h * w) ⌝ }
-    ensures { λ q. ⌜ q ≡ fourAt (λ u. at (now (a .entry)) h r u) c ⌝ }
-{
-    Four {
-        top: three_across(h, w, a, r, c),
-        r3: entry(a, h, w, r, c + 3),
-    }
-}
-
-// Three of them.
+// Three entries of row r of A, from column c on.
 fn three_across(h: usize, w: usize, a: &[f64], r: usize, c: usize) -> Three
     requires { ⌜ (r < h) × (c + 3 ≤ w) × (length (now a) ≡ h * w) ⌝ }
     ensures { λ q. ⌜ q ≡ threeAt (λ u. at (now (a .entry)) h r u) c ⌝ }

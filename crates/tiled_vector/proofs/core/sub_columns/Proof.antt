@@ -9,7 +9,7 @@ use Rattle.scalar.specs.Block.{within}
 use Rattle.kernel_vector_transpose.specs.VectorTranspose.{columnSum, subMatTransposePlusVec}
 use Rattle.block_product.specs.Working.{slot}
 use Rattle.tiled_vector.specs.TiledVector.{eachLess}
-use Rattle.tiled_vector.proofs.Parts.{part-none, part-one, part-three, part-four, part-all}
+use Rattle.tiled_vector.proofs.Parts.{part-none, part-one, part-three, part-all}
 use Rattle.tiled_vector.proofs.core.sub_columns.Statement.{statement}
 use Rattle.tiled_vector.proofs.core.sub_columns.Tie as tie
 
@@ -26,21 +26,15 @@ loop-holds c =
 
 loop-again : tie.Need-loop-again Inv-loop μ-loop
 loop-again c =
-    let x = c .before .before .before .before .before .before .before .before .before .before .args in
-    let l = c .before .before .before .before .before .before .before .loop in
-    (search needs, search needs, part-four (x .s) (x .w) (now (x .y)) (search needs) (x .t) (x .h) (inr (search needs)) (columnSum (x .h) (now (x .a))) (l .c) (l .y) _ (l .inv .2) (c .before .before .columns4 .ensures))
+    let x = c .before .before .before .before .before .before .before .before .before .args in
+    let l = c .before .before .before .before .before .before .loop in
+    (search needs, search needs, part-one (x .s) (x .w) (now (x .y)) (search needs) (x .t) (x .h) (inr (search needs)) (columnSum (x .h) (now (x .a))) (l .c) (l .y) _ (l .inv .2) (c .before .before .column .ensures))
 
 loop-again-2 : tie.Need-loop-again-2 Inv-loop μ-loop
 loop-again-2 c =
-    let x = c .before .before .before .before .before .before .before .before .before .before .before .args in
-    let l = c .before .before .before .before .before .before .before .before .loop in
+    let x = c .before .before .before .before .before .before .before .before .before .args in
+    let l = c .before .before .before .before .before .before .loop in
     (search needs, search needs, part-three (x .s) (x .w) (now (x .y)) (search needs) (x .t) (x .h) (inr (search needs)) (columnSum (x .h) (now (x .a))) (l .c) (l .y) _ (l .inv .2) (c .before .before .columns3 .ensures))
-
-loop-again-3 : tie.Need-loop-again-3 Inv-loop μ-loop
-loop-again-3 c =
-    let x = c .before .before .before .before .before .before .before .before .before .before .before .args in
-    let l = c .before .before .before .before .before .before .before .before .loop in
-    (search needs, search needs, part-one (x .s) (x .w) (now (x .y)) (search needs) (x .t) (x .h) (inr (search needs)) (columnSum (x .h) (now (x .a))) (l .c) (l .y) _ (l .inv .2) (c .before .before .column .ensures))
 
 returns : tie.Need-returns Inv-loop μ-loop
 unfolding subMatTransposePlusVec
@@ -58,7 +52,6 @@ sub-columns-spec =
     loop-holds
     (λ c. search needs)
     (λ c κs. search needs)
-    (λ c κs. search needs)
     (λ c. search needs)
     (λ c. search needs)
     loop-again
@@ -66,9 +59,5 @@ sub-columns-spec =
     (λ c. search needs)
     (λ c. search needs)
     loop-again-2
-    (λ c κs. search needs)
-    (λ c. search needs)
-    (λ c. search needs)
-    loop-again-3
     (λ c. search needs)
     returns)
