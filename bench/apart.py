@@ -28,7 +28,7 @@ KEPT = {
     ],
 }
 
-# what a function is counted as, by its crate; the others, and what is joined into the exported call, are "all else"
+# what a function is counted as, by its name or by its crate; the others, and what is joined into the exported call, are "all else"
 PARTS = {
     "plan": {
         "walks of the tree": ["reach"],
@@ -47,9 +47,9 @@ PARTS = {
         "checks and plan": ["checks", "tables", "columns", "analysis", "symbolic", "pattern", "elimination_tree", "factor_setup", "buckets", "order"],
     },
     "solve": {
-        "forward": ["forward"],
+        "forward": ["forward", "tiled_vector::core::sub_rows"],
         "blocks": ["block_solves", "dense_solve"],
-        "backward": ["backward"],
+        "backward": ["backward", "tiled_vector::core::sub_columns"],
         "checks of the tables": ["solve_checks", "tables", "columns"],
         "the factor held against its system": ["factor_match", "match_rows", "factor_order"],
         "order of the scalars": ["solve_core", "right_side", "scalars"],
@@ -132,11 +132,12 @@ def counted(program, part, night, out):
     command = ["valgrind", "--tool=callgrind", "--toggle-collect=counted", f"--callgrind-out-file={kept}", program, "ours", part] + night
     beside.run(command, stdout=subprocess.DEVNULL, stderr=subprocess.DEVNULL)
     text = subprocess.run(["callgrind_annotate", "--threshold=100", str(kept)], check=True, capture_output=True, text=True).stdout
-    of = {crate: name for name, crates in PARTS[part].items() for crate in crates}
+    of = {word: name for name, words in PARTS[part].items() for word in words}
     sums = dict.fromkeys([*PARTS[part], "memory cleared and copied", "all else"], 0)
     for number, name in re.findall(r"^\s*([0-9,]+) \([ 0-9.]+%\)\s+\S*?:(\S+)", text, re.MULTILINE):
         memory = any(word in name for word in MEMORY)
-        sums["memory cleared and copied" if memory else of.get(name.split("::")[0], "all else")] += int(number.replace(",", ""))
+        part_of = of.get(name) or of.get(name.split("::")[0], "all else")
+        sums["memory cleared and copied" if memory else part_of] += int(number.replace(",", ""))
     found = re.search(r"^\s*([0-9,]+) .*PROGRAM TOTALS", text, re.MULTILINE)
     if not found:
         sys.exit("bench/run: callgrind_annotate told nothing")

@@ -11,11 +11,11 @@ const MOST: u64 = u64::MAX;
 pub struct Cases {
     pub all: Vec<Case>,
     draw: Draw,
-    dress: u64,
+    variant: u64,
 }
 
 pub fn cases() -> Cases {
-    let mut c = Cases { all: vec![], draw: Draw(0), dress: 0 };
+    let mut c = Cases { all: vec![], draw: Draw(0), variant: 0 };
     for op in 1..=OPS.len() {
         c.draw = Draw(op as u64 * 1_000_003);
         if OPS[op - 1].tolerance {
@@ -74,9 +74,9 @@ impl Cases {
         self.all.push(Case { op, sizes: sizes.to_vec(), tolerance, slices });
     }
 
-    fn dressed(&mut self) -> u64 {
-        self.dress += 1;
-        self.dress
+    fn next_variant(&mut self) -> u64 {
+        self.variant += 1;
+        self.variant
     }
 
     // ---- kernels and solves
@@ -87,8 +87,8 @@ impl Cases {
         let mut all = vec![];
         for (s, &length) in lengths.iter().enumerate() {
             all.push(if factor == Some(s) {
-                let dress = self.dressed();
-                self.draw.factor(kind, sizes[slices[s][0]] as usize, dress)
+                let variant = self.next_variant();
+                self.draw.factor(kind, sizes[slices[s][0]] as usize, variant)
             } else if diagonal == Some(s) {
                 self.draw.diagonal(kind, length)
             } else {
@@ -217,7 +217,7 @@ impl Cases {
     // a block from its lower part by rows; above the diagonal the mirror image, NaN or plain numbers
     fn block(&mut self, rows: &[Vec<f64>]) -> Vec<f64> {
         let n = rows.len();
-        let dress = self.dressed();
+        let variant = self.next_variant();
         let mut a = vec![];
         for column in 0..n {
             for row in 0..n {
@@ -225,7 +225,7 @@ impl Cases {
                 a.push(if row >= column {
                     rows[row][column]
                 } else {
-                    [rows[column][row], NAN, other][(dress % 3) as usize]
+                    [rows[column][row], NAN, other][(variant % 3) as usize]
                 });
             }
         }
@@ -238,7 +238,7 @@ impl Cases {
             return;
         }
         let a = self.block(rows);
-        let kind = KINDS[(self.dress % 5) as usize];
+        let kind = KINDS[(self.variant % 5) as usize];
         let d = self.draw.values(kind, n);
         let slices = if op == 18 { vec![a, self.draw.values(kind, n * n), d] } else { vec![a, d] };
         self.push(op, &[n as u64], tolerance, slices);

@@ -69,7 +69,7 @@ impl Draw {
     }
 
     // n by n, the lower part by kind; the diagonal 1.0, plain numbers or NaN; above it 0.0, plain numbers or NaN
-    pub fn factor(&mut self, kind: Kind, n: usize, dress: u64) -> Vec<f64> {
+    pub fn factor(&mut self, kind: Kind, n: usize, variant: u64) -> Vec<f64> {
         let mut l = vec![];
         for column in 0..n {
             for row in 0..n {
@@ -77,8 +77,8 @@ impl Draw {
                 let other = self.plain();
                 l.push(match row.cmp(&column) {
                     std::cmp::Ordering::Greater => below,
-                    std::cmp::Ordering::Equal => [1.0, other, f64::NAN][(dress % 3) as usize],
-                    std::cmp::Ordering::Less => [0.0, f64::NAN, other][(dress / 3 % 3) as usize],
+                    std::cmp::Ordering::Equal => [1.0, other, f64::NAN][(variant % 3) as usize],
+                    std::cmp::Ordering::Less => [0.0, f64::NAN, other][(variant / 3 % 3) as usize],
                 });
             }
         }

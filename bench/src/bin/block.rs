@@ -1,31 +1,15 @@
 //! Times the source's text and the proved library beside each other, on the same numbers, in one run. The compiler can look
 //! into the source's calls, so what these take and write goes through `black_box`; into an exported call it cannot.
+use bench::systems::beside;
 use beyqaloosh::abi;
 use nalgebra::{DMatrixView, DMatrixViewMut, DVectorView, DVectorViewMut};
 use sophus_solver::kernel::sub_mat_diag_mat_t_inplace;
 use sophus_solver::ldlt::{ldlt_decompose_inplace, ldlt_right_matsolve_inplace, ldlt_solve_inplace};
 use std::hint::black_box;
-use std::time::Instant;
 
 /// The sizes of a block.
 const SIZES: [usize; 8] = [1, 2, 3, 4, 6, 8, 12, 16];
-/// The best of so many rounds, each of so many calls, is told.
-const ROUNDS: usize = 9;
-const CALLS: usize = 20_000;
 const TOLERANCE: f64 = 1e-12;
-
-/// Nanoseconds of one call.
-fn time(mut call: impl FnMut()) -> f64 {
-    let mut best = f64::MAX;
-    for _ in 0..ROUNDS {
-        let start = Instant::now();
-        for _ in 0..CALLS {
-            call();
-        }
-        best = best.min(start.elapsed().as_nanos() as f64 / CALLS as f64);
-    }
-    best
-}
 
 /// The two answers must be the same numbers, bit for bit.
 fn same(what: &str, n: usize, rust: &[f64], ours: &[f64]) {
@@ -33,9 +17,9 @@ fn same(what: &str, n: usize, rust: &[f64], ours: &[f64]) {
     assert_eq!(bits(rust), bits(ours), "{what}, n = {n}: other bits");
 }
 
-fn product(n: usize, a: &[f64], v: &[f64]) -> (f64, f64) {
+fn product(n: usize, a: &[f64], v: &[f64]) -> [f64; 2] {
     let (mut rust, mut ours) = (a.to_vec(), a.to_vec());
-    let r = time(|| {
+    let mut r = || {
         rust.copy_from_slice(a);
         sub_mat_diag_mat_t_inplace(
             &mut DMatrixViewMut::from_slice(black_box(&mut rust), n, n),
@@ -43,61 +27,65 @@ fn product(n: usize, a: &[f64], v: &[f64]) -> (f64, f64) {
             DVectorView::from_slice(v, n),
             DMatrixView::from_slice(a, n, n),
         );
-    });
-    let o = time(|| {
+    };
+    let mut o = || {
         ours.copy_from_slice(a);
         assert_eq!(abi::beyqaloosh_sub_mat_diag_mat_t_inplace(n, n, n, &mut ours, a, v, a), 0);
-    });
+    };
+    let best = beside([&mut r, &mut o]);
     same("product", n, &rust, &ours);
-    (r, o)
+    best
 }
 
 /// Also hands on the factor and d.
-fn decompose(n: usize, a: &[f64]) -> ((f64, f64), Vec<f64>, Vec<f64>) {
+fn decompose(n: usize, a: &[f64]) -> ([f64; 2], Vec<f64>, Vec<f64>) {
     let (mut rust, mut ours) = ((a.to_vec(), vec![0.0; n]), (a.to_vec(), vec![0.0; n]));
-    let r = time(|| {
+    let mut r = || {
         rust.0.copy_from_slice(a);
         let (l, d) = (black_box(&mut rust.0), &mut rust.1);
         let told = ldlt_decompose_inplace(DMatrixViewMut::from_slice(l, n, n), DVectorViewMut::from_slice(d, n), TOLERANCE);
         assert!(told.is_ok());
-    });
-    let o = time(|| {
+    };
+    let mut o = || {
         ours.0.copy_from_slice(a);
         assert_eq!(abi::beyqaloosh_ldlt_decompose_inplace(n, &mut ours.0, &mut ours.1, TOLERANCE), 0);
-    });
+    };
+    let best = beside([&mut r, &mut o]);
     same("factor", n, &rust.0, &ours.0);
     same("d", n, &rust.1, &ours.1);
-    ((r, o), ours.0, ours.1)
+    (best, ours.0, ours.1)
 }
 
-fn right_solve(n: usize, a: &[f64], l: &[f64], d: &[f64]) -> (f64, f64) {
+fn right_solve(n: usize, a: &[f64], l: &[f64], d: &[f64]) -> [f64; 2] {
     let (mut rust, mut ours) = (a.to_vec(), a.to_vec());
-    let r = time(|| {
+    let mut r = || {
         rust.copy_from_slice(a);
         let x = DMatrixViewMut::from_slice(black_box(&mut rust), n, n);
         ldlt_right_matsolve_inplace(DMatrixView::from_slice(black_box(l), n, n), DVectorView::from_slice(d, n), x);
-    });
-    let o = time(|| {
+    };
+    let mut o = || {
         ours.copy_from_slice(a);
         assert_eq!(abi::beyqaloosh_ldlt_right_matsolve_inplace(n, n, l, d, &mut ours), 0);
-    });
+    };
+    let best = beside([&mut r, &mut o]);
     same("right solve", n, &rust, &ours);
-    (r, o)
+    best
 }
 
-fn solve(n: usize, v: &[f64], l: &[f64], d: &[f64]) -> (f64, f64) {
+fn solve(n: usize, v: &[f64], l: &[f64], d: &[f64]) -> [f64; 2] {
     let (mut rust, mut ours) = (v.to_vec(), v.to_vec());
-    let r = time(|| {
+    let mut r = || {
         rust.copy_from_slice(v);
         let x = DVectorViewMut::from_slice(black_box(&mut rust), n);
         ldlt_solve_inplace(DMatrixView::from_slice(black_box(l), n, n), DVectorView::from_slice(d, n), x);
-    });
-    let o = time(|| {
+    };
+    let mut o = || {
         ours.copy_from_slice(v);
         assert_eq!(abi::beyqaloosh_ldlt_solve_inplace(n, l, d, &mut ours), 0);
-    });
+    };
+    let best = beside([&mut r, &mut o]);
     same("solve", n, &rust, &ours);
-    (r, o)
+    best
 }
 
 fn main() {
@@ -109,7 +97,7 @@ fn main() {
         let v: Vec<f64> = (0..n).map(|i| 1.0 + i as f64 * 0.01).collect();
         let (decomposed, l, d) = decompose(n, &a);
         let all = [product(n, &a, &v), decomposed, right_solve(n, &a, &l, &d), solve(n, &v, &l, &d)];
-        let row: String = all.iter().map(|(r, o)| format!(" {r:.0} | {o:.0} |")).collect();
+        let row: String = all.iter().map(|[r, o]| format!(" {r:.0} | {o:.0} |")).collect();
         println!("| {n} |{row}");
     }
 }

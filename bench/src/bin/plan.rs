@@ -1,14 +1,11 @@
 //! Times the source's plan and the proved one beside each other, on the same patterns and orders, in one run.
 use bench::calls::{PlanLent, plan};
-use bench::nights::{Night, arrow, chain, grid, random, tables, time};
+use bench::nights::{Night, arrow, chain, grid, random, tables};
 use bench::plans::{NONE, Tables, matrix};
-use bench::systems::source_plan;
+use bench::systems::{beside, source_plan};
 use sophus_solver::ldlt::{EliminationTree, block_sparse_ldlt};
 use std::hint::black_box;
 
-/// The best of so many rounds is told; a round of one of the three runs for at least so many nanoseconds.
-const ROUNDS: usize = 7;
-const AT_LEAST: f64 = 3e6;
 /// Blocks across and down of the grids; as many blocks in the other patterns.
 const SHAPES: [(usize, usize); 5] = [(16, 8), (32, 16), (32, 32), (64, 32), (64, 64)];
 const DIM: usize = 3;
@@ -60,29 +57,15 @@ fn compare(night: &Night) {
     let products = l_col_rows.iter().map(|c| (c.len() * (c.len() + 1) / 2) as u64).sum();
     assert_eq!(told, [l_rows.len() as u64, (l_rows.len() * DIM * DIM) as u64, products], "{}, {n}: other counts", night.name);
 
-    let mut best = [f64::MAX; 3];
-    let mut calls = [1; 3];
-    for round in 0..=ROUNDS {
-        let times = [
-            time(calls[0], || {
-                black_box(source_plan(black_box(&a), &night.perm));
-            }),
-            time(calls[1], || {
-                black_box(block_sparse_ldlt::symbolic(black_box(&a_perm), &flat_sub));
-            }),
-            time(calls[2], || {
-                assert_eq!(plan(black_box(&t), black_box(&mut lent), &mut told), 0);
-            }),
-        ];
-        for k in 0..3 {
-            if round == 0 {
-                // the first round only says how many calls make one
-                calls[k] = (AT_LEAST / times[k]).ceil().max(1.0) as usize;
-            } else {
-                best[k] = best[k].min(times[k]);
-            }
-        }
-    }
+    let best = beside([
+        &mut || {
+            black_box(source_plan(black_box(&a), &night.perm));
+        },
+        &mut || {
+            black_box(block_sparse_ldlt::symbolic(black_box(&a_perm), &flat_sub));
+        },
+        &mut || assert_eq!(plan(black_box(&t), black_box(&mut lent), &mut told), 0),
+    ]);
     let [whole, symbolic, proved] = best.map(|t| t / 1000.0);
     println!(
         "| {} | {n} | {} | {} | {whole:.0} | {symbolic:.0} | {proved:.0} |",

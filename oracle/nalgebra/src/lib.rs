@@ -1,5 +1,5 @@
-//! Containers under nalgebra's names, for the source files to compile over: column-major, indexing with its bounds tested, sizes,
-//! views and copies. Of arithmetic there are two methods, both on matrices: the sum of `add_assign` and the product of `gemm`, as
+//! Containers under nalgebra's names, for the source files to compile over: column-major, indexing with its bounds tested, once as there,
+//! sizes, views and copies. Of arithmetic there are two methods, both on matrices: the sum of `add_assign` and the product of `gemm`, as
 //! document 01 has it. The other two that the source names stop the program.
 use std::{
     cell::Cell,
@@ -112,6 +112,7 @@ macro_rules! matrix {
             pub fn shape(&self) -> (usize, usize) {
                 (self.nrows, self.ncols)
             }
+            // It lies in `numbers`: each constructor has seen to it that the last column ends there.
             #[inline]
             fn place(&self, (i, j): (usize, usize)) -> usize {
                 assert!(i < self.nrows && j < self.ncols, "matrix index out of bounds");
@@ -136,7 +137,9 @@ macro_rules! matrix {
             type Output = T;
             #[inline]
             fn index(&self, at: (usize, usize)) -> &T {
-                &self.numbers[self.place(at)]
+                let place = self.place(at);
+                // SAFETY: `place` has tested it
+                unsafe { self.numbers.get_unchecked(place) }
             }
         }
         impl<$($g)*> Stored<T> for $t {
@@ -162,7 +165,8 @@ macro_rules! matrix_mut {
             #[inline]
             fn index_mut(&mut self, at: (usize, usize)) -> &mut T {
                 let place = self.place(at);
-                &mut self.numbers[place]
+                // SAFETY: `place` has tested it
+                unsafe { self.numbers.get_unchecked_mut(place) }
             }
         }
     };
