@@ -13,6 +13,11 @@ import sys
 import unittest
 import unittest.mock
 
+try:
+    import numpy
+except ImportError:
+    numpy = None
+
 REPOSITORY = pathlib.Path(__file__).resolve().parent.parent
 sys.path[:0] = [str(REPOSITORY / "python"), str(REPOSITORY / "tools")]
 import beyqaloosh
@@ -233,6 +238,22 @@ class Taken(unittest.TestCase):
                 parts = {name: (floats if name == "values" else words)(part) for name, part in TWO_BLOCKS.items() if name != "tolerance"}
                 night = System(tolerance=1e-12, **parts)
                 self.assertEqual(night.factorize().solve(night, floats([8.0, 8.0])).labels(), [1.5, 1.0])
+
+    @unittest.skipUnless(numpy, "numpy is not there")
+    def test_numpy_arrays(self):
+        def made(kind, step):
+            return lambda numbers: numpy.repeat(numpy.array(numbers, dtype=kind), step)[::step]
+
+        for words in [made(kind, step) for kind in ("uint8", "uint16", "uint32", "int64") for step in (1, 2)]:
+            for floats in [made(kind, step) for kind in ("float32", "float64") for step in (1, 2)]:
+                parts = {name: (floats if name == "values" else words)(part) for name, part in TWO_BLOCKS.items() if name != "tolerance"}
+                night = System(tolerance=1e-12, **parts)
+                self.assertEqual(night.factorize().solve(night, floats([8.0, 8.0])).labels(), [1.5, 1.0])
+        for order in "CF":
+            night = Builder(0.0)
+            wide, high = night.block(2), night.block(3)
+            body = numpy.array([[1, 4], [2, 5], [3, 6]], dtype=float, order=order)
+            self.assertEqual(list(night.store(high, wide, body).build().values), [1, 2, 3, 4, 5, 6])
 
     def test_what_is_handed_over_is_copied(self):
         values, right = array.array("d", TWO_BLOCKS["values"]), array.array("d", [8, 8])

@@ -1,5 +1,6 @@
-//! Times the source's text and the proved library beside each other, on the same numbers, in one run. The compiler can look
-//! into the source's calls, so what these take and write goes through `black_box`; into an exported call it cannot.
+//! Times the source's text and the proved library beside each other, on the same numbers, in one run, and a call of ours with a slice that is
+//! too short, which is refused after its checks. The compiler can look into the source's calls, so what these take and write goes through
+//! `black_box`; into an exported call it cannot.
 use bench::systems::beside;
 use beyqaloosh::abi;
 use nalgebra::{DMatrixView, DMatrixViewMut, DVectorView, DVectorViewMut};
@@ -17,8 +18,8 @@ fn same(what: &str, n: usize, rust: &[f64], ours: &[f64]) {
     assert_eq!(bits(rust), bits(ours), "{what}, n = {n}: other bits");
 }
 
-fn product(n: usize, a: &[f64], v: &[f64]) -> [f64; 2] {
-    let (mut rust, mut ours) = (a.to_vec(), a.to_vec());
+fn product(n: usize, a: &[f64], v: &[f64]) -> [f64; 3] {
+    let (mut rust, mut ours, mut unlike) = (a.to_vec(), a.to_vec(), a.to_vec());
     let mut r = || {
         rust.copy_from_slice(a);
         sub_mat_diag_mat_t_inplace(
@@ -32,14 +33,15 @@ fn product(n: usize, a: &[f64], v: &[f64]) -> [f64; 2] {
         ours.copy_from_slice(a);
         assert_eq!(abi::beyqaloosh_sub_mat_diag_mat_t_inplace(n, n, n, &mut ours, a, v, a), 0);
     };
-    let best = beside([&mut r, &mut o]);
+    let mut checks = || assert_eq!(abi::beyqaloosh_sub_mat_diag_mat_t_inplace(n, n, n, &mut unlike, a, v, &a[1..]), 12);
+    let best = beside([&mut r, &mut o, &mut checks]);
     same("product", n, &rust, &ours);
     best
 }
 
 /// Also hands on the factor and d.
-fn decompose(n: usize, a: &[f64]) -> ([f64; 2], Vec<f64>, Vec<f64>) {
-    let (mut rust, mut ours) = ((a.to_vec(), vec![0.0; n]), (a.to_vec(), vec![0.0; n]));
+fn decompose(n: usize, a: &[f64]) -> ([f64; 3], Vec<f64>, Vec<f64>) {
+    let (mut rust, mut ours, mut unlike) = ((a.to_vec(), vec![0.0; n]), (a.to_vec(), vec![0.0; n]), a.to_vec());
     let mut r = || {
         rust.0.copy_from_slice(a);
         let (l, d) = (black_box(&mut rust.0), &mut rust.1);
@@ -50,14 +52,15 @@ fn decompose(n: usize, a: &[f64]) -> ([f64; 2], Vec<f64>, Vec<f64>) {
         ours.0.copy_from_slice(a);
         assert_eq!(abi::beyqaloosh_ldlt_decompose_inplace(n, &mut ours.0, &mut ours.1, TOLERANCE), 0);
     };
-    let best = beside([&mut r, &mut o]);
+    let mut checks = || assert_eq!(abi::beyqaloosh_ldlt_decompose_inplace(n, &mut unlike, &mut [], TOLERANCE), 12);
+    let best = beside([&mut r, &mut o, &mut checks]);
     same("factor", n, &rust.0, &ours.0);
     same("d", n, &rust.1, &ours.1);
     (best, ours.0, ours.1)
 }
 
-fn right_solve(n: usize, a: &[f64], l: &[f64], d: &[f64]) -> [f64; 2] {
-    let (mut rust, mut ours) = (a.to_vec(), a.to_vec());
+fn right_solve(n: usize, a: &[f64], l: &[f64], d: &[f64]) -> [f64; 3] {
+    let (mut rust, mut ours, mut unlike) = (a.to_vec(), a.to_vec(), a.to_vec());
     let mut r = || {
         rust.copy_from_slice(a);
         let x = DMatrixViewMut::from_slice(black_box(&mut rust), n, n);
@@ -67,13 +70,14 @@ fn right_solve(n: usize, a: &[f64], l: &[f64], d: &[f64]) -> [f64; 2] {
         ours.copy_from_slice(a);
         assert_eq!(abi::beyqaloosh_ldlt_right_matsolve_inplace(n, n, l, d, &mut ours), 0);
     };
-    let best = beside([&mut r, &mut o]);
+    let mut checks = || assert_eq!(abi::beyqaloosh_ldlt_right_matsolve_inplace(n, n, l, d, &mut unlike[1..]), 12);
+    let best = beside([&mut r, &mut o, &mut checks]);
     same("right solve", n, &rust, &ours);
     best
 }
 
-fn solve(n: usize, v: &[f64], l: &[f64], d: &[f64]) -> [f64; 2] {
-    let (mut rust, mut ours) = (v.to_vec(), v.to_vec());
+fn solve(n: usize, v: &[f64], l: &[f64], d: &[f64]) -> [f64; 3] {
+    let (mut rust, mut ours, mut unlike) = (v.to_vec(), v.to_vec(), v.to_vec());
     let mut r = || {
         rust.copy_from_slice(v);
         let x = DVectorViewMut::from_slice(black_box(&mut rust), n);
@@ -83,21 +87,23 @@ fn solve(n: usize, v: &[f64], l: &[f64], d: &[f64]) -> [f64; 2] {
         ours.copy_from_slice(v);
         assert_eq!(abi::beyqaloosh_ldlt_solve_inplace(n, l, d, &mut ours), 0);
     };
-    let best = beside([&mut r, &mut o]);
+    let mut checks = || assert_eq!(abi::beyqaloosh_ldlt_solve_inplace(n, l, d, &mut unlike[1..]), 12);
+    let best = beside([&mut r, &mut o, &mut checks]);
     same("solve", n, &rust, &ours);
     best
 }
 
 fn main() {
-    println!("| n | product: Rust | ours | decompose: Rust | ours | right solve: Rust | ours | solve: Rust | ours |");
-    println!("|---|---|---|---|---|---|---|---|---|");
+    let titles: String = ["product", "decompose", "right solve", "solve"].map(|call| format!(" {call}: Rust | ours | of it checks |")).concat();
+    println!("| n |{titles}");
+    println!("|--:|{}", "--:|".repeat(12));
     for n in SIZES {
         let entry = |i: usize| if i % n == i / n { 4.0 + (i % n) as f64 } else { 0.1 / (1.0 + (i % n + i / n) as f64) };
         let a: Vec<f64> = (0..n * n).map(entry).collect();
         let v: Vec<f64> = (0..n).map(|i| 1.0 + i as f64 * 0.01).collect();
         let (decomposed, l, d) = decompose(n, &a);
         let all = [product(n, &a, &v), decomposed, right_solve(n, &a, &l, &d), solve(n, &v, &l, &d)];
-        let row: String = all.iter().map(|[r, o]| format!(" {r:.0} | {o:.0} |")).collect();
+        let row: String = all.iter().map(|[r, o, c]| format!(" {r:.0} | {o:.0} | {c:.1} |")).collect();
         println!("| {n} |{row}");
     }
 }
