@@ -1,5 +1,5 @@
-//! Containers under nalgebra's names, for the source files to compile over: column-major, indexing with its bounds tested, once as there,
-//! sizes, views and copies. Of arithmetic there are two methods, both on matrices: the sum of `add_assign` and the product of `gemm`, as
+//! Containers under nalgebra's names, for the source files to compile over: column-major, indexing with its bounds tested once, sizes,
+//! views and copies. Of arithmetic there are two methods, both on matrices: the sum of `add_assign` and the product of `gemm`, as
 //! document 01 has it. The other two that the source names stop the program.
 use std::{
     cell::Cell,
