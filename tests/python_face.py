@@ -230,14 +230,18 @@ class Strided:
 class Taken(unittest.TestCase):
     """What is taken for a table or for floats, all of it copied."""
 
+    def solves(self, words, floats):
+        """The night of two blocks, its tables and its floats made by these."""
+        parts = {name: (floats if name == "values" else words)(part) for name, part in TWO_BLOCKS.items() if name != "tolerance"}
+        night = System(tolerance=1e-12, **parts)
+        self.assertEqual(night.factorize().solve(night, floats([8.0, 8.0])).labels(), [1.5, 1.0])
+
     def test_lists_arrays_and_views(self):
         for words in (list, tuple, lambda t: array.array("I", t), lambda t: array.array("q", t), lambda t: memoryview(array.array("I", t)),
                       lambda t: Strided("I", t), lambda t: Strided("q", t), lambda t: Strided("B", t)):
             for floats in (list, lambda t: array.array("d", t), lambda t: memoryview(array.array("d", t)), lambda t: Strided("d", t),
                            lambda t: Strided("f", t)):
-                parts = {name: (floats if name == "values" else words)(part) for name, part in TWO_BLOCKS.items() if name != "tolerance"}
-                night = System(tolerance=1e-12, **parts)
-                self.assertEqual(night.factorize().solve(night, floats([8.0, 8.0])).labels(), [1.5, 1.0])
+                self.solves(words, floats)
 
     @unittest.skipUnless(numpy, "numpy is not there")
     def test_numpy_arrays(self):
@@ -246,9 +250,7 @@ class Taken(unittest.TestCase):
 
         for words in [made(kind, step) for kind in ("uint8", "uint16", "uint32", "int64") for step in (1, 2)]:
             for floats in [made(kind, step) for kind in ("float32", "float64") for step in (1, 2)]:
-                parts = {name: (floats if name == "values" else words)(part) for name, part in TWO_BLOCKS.items() if name != "tolerance"}
-                night = System(tolerance=1e-12, **parts)
-                self.assertEqual(night.factorize().solve(night, floats([8.0, 8.0])).labels(), [1.5, 1.0])
+                self.solves(words, floats)
         for order in "CF":
             night = Builder(0.0)
             wide, high = night.block(2), night.block(3)
