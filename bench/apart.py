@@ -12,7 +12,7 @@ import beside
 KEPT = {
     "plan_abi": [
         "checks::check_plan", "analysis::core::permute", "elimination_tree::core::new_core", "symbolic::core::counts",
-        "symbolic::core::fill", "reach::core::scan", "scratch::core::clear_plan",
+        "symbolic::core::fill", "scratch::core::clear_plan",
     ],
     "factor_abi": [
         "checks::check_system", "analysis::core::analyze", "analysis::core::store", "factor_setup::core::write_tables",
@@ -31,8 +31,7 @@ KEPT = {
 # what a function is counted as, by its name or by its crate; the others, and what is joined into the exported call, are "all else"
 PARTS = {
     "plan": {
-        "walks of the tree": ["reach"],
-        "rows counted, and rows stored": ["symbolic"],
+        "rows counted as the tree is climbed, and stored": ["symbolic"],
         "the tree": ["elimination_tree"],
         "the permuted pattern": ["analysis", "pattern", "order"],
         "checks": ["checks", "tables", "columns"],

@@ -1,6 +1,6 @@
 //! What a solve is to answer: 1 to 12 as document 01 has them, read apart from this repository's code, the plan that a factor must have
 //! being the source's; and the solution with any numbers, by the source's kernels in the order of document 01.
-use bench::plans::{NONE, Plan, Tables, bad_start, refused};
+use bench::plans::{Plan, Tables, bad_order, bad_parent, bad_row, bad_start, column, refused};
 use nalgebra::{DMatrixView, DVectorView, DVectorViewMut};
 use sophus_solver::{
     kernel::{sub_mat_plus_vec_inplace, sub_mat_transpose_plus_vec_in_place},
@@ -45,7 +45,7 @@ fn offsets(t: &Tables, f: &Held) -> Vec<usize> {
     let dim = |new: usize| t.dims[order[new] as usize] as usize;
     let mut ends = vec![0];
     for j in 0..t.dims.len() {
-        for p in f.l_starts[j] as usize..f.l_starts[j + 1] as usize {
+        for p in column(&f.l_starts, j) {
             ends.push(ends[p] + dim(j) * dim(f.l_rows[p] as usize));
         }
     }
@@ -69,19 +69,16 @@ pub fn refusal(t: &Tables, f: &Held, x: usize, lent: &[usize; BUFFERS], plan: im
     if let Some(of_system) = up_to(5) {
         return Some(of_system);
     }
-    let column = |j: usize| f.l_starts[j] as usize..f.l_starts[j + 1] as usize;
-    let outside = |j: usize, p: usize| f.l_rows[p] as usize <= j || f.l_rows[p] as usize >= n;
-    if let Some(p) = (0..n).find_map(|j| column(j).find(|&p| outside(j, p))) {
+    if let Some(p) = bad_row(&f.l_starts, &f.l_rows, n, |j| j + 1) {
         return told(5, p, 2, 0);
     }
-    let parent = |k: usize, p: u32| p == NONE || (p as usize > k && (p as usize) < n);
-    if let Some(k) = f.parents.iter().enumerate().position(|(k, &p)| !parent(k, p)) {
+    if let Some(k) = bad_parent(&f.parents, n) {
         return told(5, k, 1, 0);
     }
     if let Some(of_system) = up_to(6) {
         return Some(of_system);
     }
-    if let Some(p) = (0..n).find_map(|j| column(j).skip(1).find(|&p| f.l_rows[p] <= f.l_rows[p - 1])) {
+    if let Some(p) = bad_order(&f.l_starts, &f.l_rows, n) {
         return told(6, p, 2, 0);
     }
     // the areas of a factor go by the order of elimination, so a permutation and flags that are none come first
@@ -106,8 +103,8 @@ pub fn refusal(t: &Tables, f: &Held, x: usize, lent: &[usize; BUFFERS], plan: im
     }
     let plan = plan();
     for j in 0..n {
-        let rows = &f.l_rows[column(j)];
-        let right = &plan.l_rows[plan.l_starts[j] as usize..plan.l_starts[j + 1] as usize];
+        let rows = &f.l_rows[column(&f.l_starts, j)];
+        let right = &plan.l_rows[column(&plan.l_starts, j)];
         if right.iter().any(|row| !rows.contains(row)) {
             return told(12, 8, j as u64, 0);
         }
@@ -142,7 +139,7 @@ pub fn solved(t: &Tables, f: &Held, numbers: [&[f64]; 3], right: &[f64]) -> Vec<
     let unit_at = sums(dims.iter().map(|d| d * d).collect());
     let old_scalar = |j: usize, r: usize| old_at[f.order[j] as usize] + r;
     let mut y: Vec<f64> = (0..n).flat_map(|j| (0..dims[j]).map(move |r| (j, r))).map(|(j, r)| right[old_scalar(j, r)]).collect();
-    let rows = |j: usize| (f.l_starts[j] as usize..f.l_starts[j + 1] as usize).map(|p| (p, f.l_rows[p] as usize));
+    let rows = |j: usize| column(&f.l_starts, j).map(|p| (p, f.l_rows[p] as usize));
     let body = |p: usize, i: usize, j: usize| {
         DMatrixView::from_slice(&numbers[0][f.l_offsets[p] as usize..][..dims[i] * dims[j]], dims[i], dims[j])
     };

@@ -66,9 +66,6 @@ pub fn list() -> (Vec<u8>, String) {
     bytes.extend(0u32.to_le_bytes());
 
     let numbers = [0, 1, 2, 3, 4, 5, 6, 7, 8, 9, 10, 11, 13, 14];
-    assert!(counts.keys().all(|k| numbers.contains(&k.1)));
-    let of = |n: u32| counts.iter().filter(|(k, _)| k.1 == n).map(|(_, c)| c).sum::<usize>();
-    assert!(numbers.iter().all(|&n| of(n) >= 2), "a number has no two cases");
     let mut text = table("crates/factors/stdin", &KINDS, &numbers, &counts);
     let (values, blocks, scalars, stored, products) = most;
     writeln!(

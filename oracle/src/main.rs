@@ -1,5 +1,5 @@
-//! Runs the source on every case and writes the four lists with their tables: `answers LIST TABLE PLANS TABLE FACTORS TABLE SHEETS
-//! TABLE`. `answers --drawn SEED COUNT LIST` writes a list of drawn sheets.
+//! Runs the source on every case and writes the five lists with their tables: `answers LIST TABLE TREES TABLE PLANS TABLE FACTORS TABLE
+//! SHEETS TABLE`. `answers --drawn SEED COUNT LIST` writes a list of drawn sheets.
 mod cases;
 mod factor_cases;
 mod factor_list;
@@ -13,6 +13,9 @@ mod sheet_list;
 mod sheets;
 mod table;
 mod values;
+mod walk_cases;
+mod walk_list;
+mod walks;
 
 use std::{collections::BTreeMap, fmt::Write, process::exit};
 
@@ -56,8 +59,8 @@ fn main() {
         std::fs::write(list, sheet_list::drawn_list(seed, count)).expect("the list of drawn sheets is written");
         return;
     }
-    let [list, table, plans, plans_table, factors, factors_table, sheets, sheets_table] = &to[..] else {
-        eprintln!("answers LIST TABLE PLANS TABLE FACTORS TABLE SHEETS TABLE");
+    let [list, table, trees, trees_table, plans, plans_table, factors, factors_table, sheets, sheets_table] = &to[..] else {
+        eprintln!("answers LIST TABLE TREES TABLE PLANS TABLE FACTORS TABLE SHEETS TABLE");
         exit(2);
     };
     let mut bytes: Vec<u8> = vec![];
@@ -96,6 +99,9 @@ fn main() {
     .unwrap();
     std::fs::write(list, bytes).expect("the list is written");
     std::fs::write(table, text).expect("the table is written");
+    let (bytes, text) = walk_list::list();
+    std::fs::write(trees, bytes).expect("the list of trees is written");
+    std::fs::write(trees_table, text).expect("its table is written");
     let (bytes, text) = plan_list::list();
     std::fs::write(plans, bytes).expect("the list of plans is written");
     std::fs::write(plans_table, text).expect("its table is written");

@@ -3,7 +3,7 @@ use crate::plans::{BUFFERS, Call, Case, L_ROWS, Tables, run};
 use crate::values::Draw;
 
 /// What the kinds of cases are called; the first has the number 1.
-pub const KINDS: [&str; 15] = [
+pub const KINDS: [&str; 14] = [
     "random",
     "chain",
     "hub",
@@ -18,7 +18,6 @@ pub const KINDS: [&str; 15] = [
     "two faults",
     "lent buffers",
     "check of a system",
-    "tree and walks",
 ];
 
 const RANDOM: usize = 1;
@@ -35,7 +34,6 @@ const FAULT: usize = 11;
 const FAULTS: usize = 12;
 const LENT: usize = 13;
 const SYSTEM: usize = 14;
-const WALKS: usize = 15;
 
 /// Each buffer longer than its need by these, and by nothing.
 const OVER: [i64; BUFFERS] = [3, 1, 2, 4, 1, 2, 3, 1, 2, 4, 3, 1];
@@ -564,27 +562,29 @@ impl Maker {
     }
 }
 
-/// The trees and walks of plans that were made so far: all of few blocks without a late one, and every fourth of the others up to
-/// 90 blocks.
-fn walks(plans: &[Case]) -> Vec<Case> {
-    let right = plans.iter().filter(|c| run(c).refusal.is_none() && c.tables.dims.len() <= 90);
-    let few = |c: &&Case| c.kind != FEW || c.tables.late.iter().all(|&flag| flag == 0);
-    let tables = right.filter(few).enumerate().filter(|(at, c)| c.kind == FEW || at % 4 == 0).map(|(_, c)| c.tables.clone());
-    tables.map(|tables| Case { kind: WALKS, tables, call: Call::Walks }).collect()
-}
-
-pub fn cases() -> Vec<Case> {
+/// Patterns of each kind, all of which are accepted.
+fn patterns() -> Maker {
     let mut maker = Maker::new(0x706C616E73);
     maker.random();
     maker.shapes();
     maker.late();
     maker.few();
-    let walks = walks(&maker.all);
+    maker
+}
+
+/// The tables that trees are grown of: all of few blocks without a late one, and every fourth of the others up to 90 blocks.
+pub fn grown() -> Vec<Tables> {
+    let small = patterns().all.into_iter().filter(|c| c.tables.dims.len() <= 90);
+    let few = small.filter(|c| c.kind != FEW || c.tables.late.iter().all(|&flag| flag == 0));
+    few.enumerate().filter(|(at, c)| c.kind == FEW || at % 4 == 0).map(|(_, c)| c.tables).collect()
+}
+
+pub fn cases() -> Vec<Case> {
+    let mut maker = patterns();
     maker.one_fault();
     maker.two_faults();
     maker.lent();
     maker.system();
-    maker.all.extend(walks);
     let limits = maker.limits();
     maker.plan(LIMITS, limits, OVER);
     maker.all

@@ -2,29 +2,12 @@
 use std::{collections::BTreeMap, fmt::Write};
 
 use crate::plan_cases::{KINDS, cases};
-use crate::plans::{Answer, Call, Case, Walks, run};
+use crate::plans::{Answer, Call, Case, run};
 use crate::table::table;
 
 const HEAD: usize = 27;
 
-/// A tree and walks: starts and rows of the upper pattern, the parents, and for each block the length of its list and the list.
-fn walk_words(kind: usize, walks: &Walks) -> Vec<u32> {
-    let mut w = vec![kind as u32, 0, walks.starts.len() as u32, walks.rows.len() as u32];
-    w.resize(HEAD, 0);
-    for slice in [&walks.starts, &walks.rows, &walks.parents] {
-        w.extend(slice);
-    }
-    for reach in &walks.reaches {
-        w.push(reach.len() as u32);
-        w.extend(reach);
-    }
-    w
-}
-
 fn words(case: &Case, answer: &Answer) -> Vec<u32> {
-    if let Some(walks) = &answer.walks {
-        return walk_words(case.kind, walks);
-    }
     let t = &case.tables;
     let inputs = [&t.dims, &t.starts, &t.rows, &t.perm, &t.late];
     let mut w = vec![case.kind as u32];
@@ -36,7 +19,6 @@ fn words(case: &Case, answer: &Answer) -> Vec<u32> {
             w.extend([values, bits as u32, (bits >> 32) as u32]);
             w.extend([0; 9]);
         }
-        Call::Walks => unreachable!(),
     }
     let (number, first, second) = answer.refusal.unwrap_or_default();
     w.extend([number, first, second, answer.cleared as u32]);
@@ -67,7 +49,6 @@ pub fn list() -> (Vec<u8>, String) {
     bytes.extend(0u32.to_le_bytes());
 
     let numbers = [0, 1, 2, 3, 4, 5, 6, 7, 8, 9, 10, 11];
-    assert!(numbers.iter().all(|&n| counts.keys().any(|k| k.1 == n)), "a number has no case");
     let mut text = table("crates/plans/stdin", &KINDS, &numbers, &counts);
     let (blocks, stored, l_rows) = most;
     writeln!(text, "\nThe greatest plan has {blocks} blocks, {stored} stored blocks of A and {l_rows} of L.").unwrap();

@@ -1,9 +1,12 @@
 //! One plan: the refusals as document 01 has them, then the source's own functions on the same tables.
+use std::ops::Range;
+
 use sophus_solver::{
     ldlt::{EliminationTree, block_sparse_ldlt},
     matrix::{
         Grid, PartitionSet, PartitionSpec,
         block_sparse::{BlockSparseMatrix, BlockSparseTripletMatrix, BlockTriplet, BlockTripletRegion},
+        sparse::ColumnCompressedPattern,
     },
 };
 
@@ -29,8 +32,6 @@ pub enum Call {
     Plan { over: [i64; BUFFERS] },
     /// The check of a system with so many values and this tolerance.
     System { values: u32, tolerance: f64 },
-    /// The tree of the permuted pattern, and a walk for each of its blocks.
-    Walks,
 }
 
 #[derive(Clone)]
@@ -50,14 +51,6 @@ pub struct Plan {
     pub products: u64,
 }
 
-/// The upper pattern of a permuted matrix, the parents of its blocks, and what a walk for each gives, in the order of its list.
-pub struct Walks {
-    pub starts: Vec<u32>,
-    pub rows: Vec<u32>,
-    pub parents: Vec<u32>,
-    pub reaches: Vec<Vec<u32>>,
-}
-
 /// A refusal's number with its place, or with the buffer and its need.
 pub type Refusal = (u32, u32, u32);
 
@@ -66,7 +59,6 @@ pub struct Answer {
     pub lent: [u32; BUFFERS],
     pub refusal: Option<Refusal>,
     pub plan: Option<Plan>,
-    pub walks: Option<Walks>,
     /// Whether the scratch ends as zeros.
     pub cleared: bool,
 }
@@ -87,23 +79,14 @@ pub fn refused(t: &Tables, values: Option<u32>) -> Option<Refusal> {
     if m > 65536 {
         return told(4, 0);
     }
-    let column = |j: usize| t.starts[j] as usize..t.starts[j + 1] as usize;
-    for j in 0..n {
-        for p in column(j) {
-            if (t.rows[p] as usize) < j || t.rows[p] as usize >= n {
-                return told(5, p);
-            }
-        }
+    if let Some(p) = bad_row(&t.starts, &t.rows, n, |j| j) {
+        return told(5, p);
     }
-    for j in 0..n {
-        for p in column(j).skip(1) {
-            if t.rows[p] <= t.rows[p - 1] {
-                return told(6, p);
-            }
-        }
+    if let Some(p) = bad_order(&t.starts, &t.rows, n) {
+        return told(6, p);
     }
     if let Some(values) = values {
-        let area = |j: usize| column(j).map(|p| t.dims[j] * t.dims[t.rows[p] as usize]).sum::<u32>();
+        let area = |j: usize| column(&t.starts, j).map(|p| t.dims[j] * t.dims[t.rows[p] as usize]).sum::<u32>();
         if values != (0..n).map(area).sum() {
             return told(7, 0);
         }
@@ -136,6 +119,27 @@ pub fn bad_start(starts: &[u32], n: usize, m: usize) -> Option<usize> {
     (starts.len() > n + 1).then_some(n + 1)
 }
 
+/// The places of column j in a row table.
+pub fn column(starts: &[u32], j: usize) -> Range<usize> {
+    starts[j] as usize..starts[j + 1] as usize
+}
+
+/// The first row of n columns that is below the least of its column or past the last block.
+pub fn bad_row(starts: &[u32], rows: &[u32], n: usize, least: impl Fn(usize) -> usize) -> Option<usize> {
+    let outside = |j: usize, p: usize| !(least(j)..n).contains(&(rows[p] as usize));
+    (0..n).find_map(|j| column(starts, j).find(|&p| outside(j, p)))
+}
+
+/// The first row of n columns that is not greater than the one before it in its column.
+pub fn bad_order(starts: &[u32], rows: &[u32], n: usize) -> Option<usize> {
+    (0..n).find_map(|j| column(starts, j).skip(1).find(|&p| rows[p] <= rows[p - 1]))
+}
+
+/// The first parent that is neither none nor a greater one of n blocks.
+pub fn bad_parent(parents: &[u32], n: usize) -> Option<usize> {
+    parents.iter().enumerate().position(|(k, &p)| p != NONE && !(k + 1..n).contains(&(p as usize)))
+}
+
 /// The needs of the lent buffers; that of L's row table is only known after the plan.
 pub fn needs(t: &Tables, l_rows: usize) -> [usize; BUFFERS] {
     let (n, m) = (t.dims.len(), t.rows.len());
@@ -149,11 +153,7 @@ pub fn run(case: &Case) -> Answer {
             if refusal.is_none() && !(tolerance.is_finite() && *tolerance >= 0.0) {
                 refusal = Some((10, 0, 0));
             }
-            Answer { lent: [0; BUFFERS], refusal, plan: None, walks: None, cleared: false }
-        }
-        Call::Walks => {
-            let walks = Some(walked(&case.tables));
-            Answer { lent: [0; BUFFERS], refusal: None, plan: None, walks, cleared: false }
+            Answer { lent: [0; BUFFERS], refusal, plan: None, cleared: false }
         }
         Call::Plan { over } => {
             let mut refusal = refused(&case.tables, None);
@@ -169,7 +169,7 @@ pub fn run(case: &Case) -> Answer {
                 refusal = which.map(|b| (11, b as u32, needs[b] as u32));
                 cleared = known.is_none();
             }
-            Answer { lent, plan: plan.filter(|_| refusal.is_none()), walks: None, refusal, cleared }
+            Answer { lent, plan: plan.filter(|_| refusal.is_none()), refusal, cleared }
         }
     }
 }
@@ -208,27 +208,19 @@ pub fn matrix(t: &Tables) -> BlockSparseMatrix {
     made
 }
 
-fn words(xs: &[usize]) -> Vec<u32> {
+pub fn words(xs: &[usize]) -> Vec<u32> {
     xs.iter().map(|&x| x as u32).collect()
 }
 
-fn parents_of(etree: &EliminationTree) -> Vec<u32> {
+pub fn parents_of(etree: &EliminationTree) -> Vec<u32> {
     etree.parent_array().iter().map(|p| p.map_or(NONE, |p| p.get() as u32)).collect()
 }
 
-/// The source's upper pattern, tree and walks of tables that are right; one tree walks for all blocks.
-fn walked(t: &Tables) -> Walks {
+/// The source's upper pattern of tables that are right, in the order of elimination.
+pub fn upper(t: &Tables) -> ColumnCompressedPattern {
     let a_lower = matrix(t);
     let (order, inverse) = block_sparse_ldlt::order(&a_lower, t.perm.iter().map(|&k| k as usize).collect());
-    let (_, a_lower_perm) = block_sparse_ldlt::permute(&a_lower, &order, &inverse);
-    let upper = a_lower_perm.build_pattern_upper();
-    let mut etree = EliminationTree::new(upper.clone());
-    Walks {
-        starts: words(upper.storage_idx_by_col()),
-        rows: words(upper.row_idx_storage()),
-        parents: parents_of(&etree),
-        reaches: (0..t.dims.len()).map(|j| words(etree.reach(j))).collect(),
-    }
+    block_sparse_ldlt::permute(&a_lower, &order, &inverse).1.build_pattern_upper()
 }
 
 /// The source's plan of tables that are right.

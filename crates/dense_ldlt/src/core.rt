@@ -6,7 +6,6 @@ use dense_pivots::core::result_of;
 use dense_rows::core::clear_upper;
 use dense_rows::core::divide_row;
 use dense_rows::core::kept_of;
-use dense_rows::core::pivot;
 use scalar::blank;
 use scalar::core::store;
 use scalar::is_finite;
@@ -37,8 +36,7 @@ pub fn ldlt_decompose_core(n: usize, a: &mut [f64], d: &mut [f64], tol: f64) -> 
     };
     for j in 0..n {
         let tolerance = p.greatest * tol;
-        divide_row(n, j, tolerance, a, d);
-        let x = pivot(n, j, &a[..], &d[..]);
+        let x = divide_row(n, j, tolerance, a, d);
         if !is_finite(x) {
             blank(a);
             blank(d);

@@ -7,17 +7,24 @@ ghost use Prim.Native.Nat.{_*_, _≤_, _<_};
 ghost use lib.ListN.{length};
 ghost use Rattle.dense_rows.specs.Row.{reducedEntry, dividedBy, dividedRow, pivotOf, stored, clearUpper};
 
-// The entries of row j left of the diagonal become those of L.
-pub fn divide_row(n: usize, j: usize, tolerance: f64, a: &mut [f64], d: &[f64])
+// The entries of row j left of the diagonal become those of L. The result is the row's pivot: the entry (j, j), less
+// (d(k) * L(j, k)) * L(j, k) for each k below j in turn. It loses each as the entry is made, so that its differences, each
+// of which waits for the one before, run beside those of the entries.
+pub fn divide_row(n: usize, j: usize, tolerance: f64, a: &mut [f64], d: &[f64]) -> f64
     requires { ⌜ j < n ⌝ }
     requires { ⌜ length (now a) ≡ n * n ⌝ }
     requires { ⌜ length (now d) ≡ n ⌝ }
     ensures { λ _. ⌜ now (a .exit) ≡ dividedRow n j tolerance (now (d .entry)) (now (a .entry)) ⌝ }
+    ensures { λ r. ⌜ r ≡ pivotOf n j (now (a .exit)) (now (d .entry)) ⌝ }
 {
+    let mut x = entry(&a[..], n, n, j, j);
     for k in 0..j {
         let s = reduced(n, j, k, &a[..], d);
-        store(a, n, n, j, k, divided(tolerance, d[k], s));
+        let l = divided(tolerance, d[k], s);
+        store(a, n, n, j, k, l);
+        x = x - d[k] * l * l;
     }
+    x
 }
 
 // The entry (j, k), less (L(j, p) * d(p)) * L(k, p) for each p below k in turn.
@@ -39,21 +46,6 @@ fn divided(tolerance: f64, d: f64, s: f64) -> f64
     ensures { λ r. ⌜ r ≡ dividedBy tolerance d s ⌝ }
 {
     if at_most(d, tolerance) { 0.0 } else { s / d }
-}
-
-// The pivot of row j: the entry (j, j), less (d(p) * L(j, p)) * L(j, p) for each p below j in turn.
-pub fn pivot(n: usize, j: usize, a: &[f64], d: &[f64]) -> f64
-    requires { ⌜ j < n ⌝ }
-    requires { ⌜ length (now a) ≡ n * n ⌝ }
-    requires { ⌜ length (now d) ≡ n ⌝ }
-    ensures { λ r. ⌜ r ≡ pivotOf n j (now (a .entry)) (now (d .entry)) ⌝ }
-{
-    let mut s = entry(a, n, n, j, j);
-    for p in 0..j {
-        let l = entry(a, n, n, j, p);
-        s = s - d[p] * l * l;
-    }
-    s
 }
 
 // The pivot as it is stored: 0.0 where |x| is at most the tolerance.

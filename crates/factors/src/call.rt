@@ -1,13 +1,17 @@
 // One case of the list: read, called and judged. The list has 44 words in front of each, after its kind: the lengths of the six
 // tables from 0 on, those of the 21 lent buffers from 6 on, the tolerance at 27 and 28, the answer from 29 on.
 use crate::judge;
+use crate::numbers;
 use crate::numbers::float;
-use crate::room;
-use crate::room::size;
 use crate::told::matches;
 use crate::told::of;
-use crate::words;
 use factorize::factorize;
+use word_list::lent::all;
+use word_list::room;
+use word_list::room::held;
+use word_list::words;
+use word_list::words::size;
+ghost use Prim.Native.Nat.{_≤_};
 
 // What a turn at the list comes to.
 pub enum Turn {
@@ -50,30 +54,27 @@ fn fits(h: &[u32; 44]) -> bool {
     true
 }
 
+// The room for table or buffer k: A's rows, L's tables and the scratch of stored blocks are long, and floats have their own.
 fn room_of(k: usize) -> usize {
     match k {
-        2 => room::ROWS,
-        3 => room::VALUES,
-        9 | 10 => room::L_BLOCKS,
-        11 => room::L_NUMBERS,
-        12..=14 => room::NUMBERS,
-        21..=23 => room::STORED,
+        2 | 9 | 10 | 21..=23 => room::STORED,
+        3 | 11..=14 => numbers::ROOM,
         _ => room::BLOCKS,
     }
 }
 
 // The tables are the next words of the list.
 fn read(h: &[u32; 44]) -> bool {
-    let k0 = room::of_blocks(h[0]);
-    let k1 = room::of_blocks(h[1]);
-    let k2 = room::of_rows(h[2]);
-    let k3 = room::of_values(h[3]);
-    let k4 = room::of_blocks(h[4]);
-    let k5 = room::of_blocks(h[5]);
+    let k0 = held(h[0], room::BLOCKS);
+    let k1 = held(h[1], room::BLOCKS);
+    let k2 = held(h[2], room::STORED);
+    let k3 = held(h[3], numbers::ROOM);
+    let k4 = held(h[4], room::BLOCKS);
+    let k5 = held(h[5], room::BLOCKS);
     let dims = room::blocks(k0);
     let starts = room::blocks(k1);
-    let rows = room::rows(k2);
-    let values = room::values(k3);
+    let rows = room::stored(k2);
+    let values = numbers::values(k3);
     let perm = room::blocks(k4);
     let late = room::blocks(k5);
     lending(
@@ -97,24 +98,24 @@ fn lending(
     perm: &[u32],
     late: &[u32],
 ) -> bool {
-    let k6 = room::of_blocks(h[6]);
-    let k7 = room::of_blocks(h[7]);
-    let k8 = room::of_blocks(h[8]);
-    let k9 = room::of_l_blocks(h[9]);
-    let k10 = room::of_l_blocks(h[10]);
-    let k11 = room::of_l_numbers(h[11]);
-    let k12 = room::of_numbers(h[12]);
-    let k13 = room::of_numbers(h[13]);
-    let k14 = room::of_numbers(h[14]);
+    let k6 = held(h[6], room::BLOCKS);
+    let k7 = held(h[7], room::BLOCKS);
+    let k8 = held(h[8], room::BLOCKS);
+    let k9 = held(h[9], room::STORED);
+    let k10 = held(h[10], room::STORED);
+    let k11 = held(h[11], numbers::ROOM);
+    let k12 = held(h[12], numbers::ROOM);
+    let k13 = held(h[13], numbers::ROOM);
+    let k14 = held(h[14], numbers::ROOM);
     let mut order = room::lent_blocks();
     let mut parents = room::lent_blocks();
     let mut l_starts = room::lent_blocks();
-    let mut l_rows = room::lent_l_blocks();
-    let mut l_offsets = room::lent_l_blocks();
-    let mut l_values = room::lent_l_numbers();
-    let mut diag = room::lent_numbers();
-    let mut d = room::lent_numbers();
-    let mut column = room::lent_numbers();
+    let mut l_rows = room::lent_stored();
+    let mut l_offsets = room::lent_stored();
+    let mut l_values = numbers::lent();
+    let mut diag = numbers::lent();
+    let mut d = numbers::lent();
+    let mut column = numbers::lent();
     let told = with_scratch(
         h,
         dims,
@@ -135,7 +136,7 @@ fn lending(
     );
     let in_floats = judge::floats(h, &l_values, &diag, &d, &column);
     let in_tables = judge::tables(h, &order, &parents, &l_starts, &l_rows, &l_offsets);
-    judge::all(told, in_floats, in_tables, true, true)
+    all(told, in_floats, in_tables, true, true)
 }
 
 // The same for the rest of the scratch: what is told, and what is left in it.
@@ -157,18 +158,19 @@ fn with_scratch(
     d: &mut [f64],
     column: &mut [f64],
 ) -> bool {
-    let k15 = room::of_blocks(h[15]);
-    let k16 = room::of_blocks(h[16]);
-    let k17 = room::of_blocks(h[17]);
-    let k18 = room::of_blocks(h[18]);
-    let k19 = room::of_blocks(h[19]);
-    let k20 = room::of_blocks(h[20]);
-    let k21 = room::of_stored(h[21]);
-    let k22 = room::of_stored(h[22]);
-    let k23 = room::of_stored(h[23]);
-    let k24 = room::of_blocks(h[24]);
-    let k25 = room::of_blocks(h[25]);
-    let k26 = room::of_blocks(h[26]);
+    let k = scratch_lengths(h);
+    let k15 = k.inverse;
+    let k16 = k.sizes;
+    let k17 = k.count;
+    let k18 = k.heads;
+    let k19 = k.into;
+    let k20 = k.stamps;
+    let k21 = k.table;
+    let k22 = k.upper;
+    let k23 = k.bodies;
+    let k24 = k.units;
+    let k25 = k.pivots;
+    let k26 = k.places;
     let mut inverse = room::lent_blocks();
     let mut sizes = room::lent_blocks();
     let mut count = room::lent_blocks();
@@ -216,5 +218,40 @@ fn with_scratch(
     let in_blocks = judge::scratch_blocks(h, &inverse, &sizes, &count, &stamps, &places);
     let in_starts = judge::scratch_starts(h, &heads, &into, &unit_starts, &d_starts);
     let in_stored = judge::scratch_stored(h, &table, &upper, &bodies);
-    judge::all(told, in_blocks, in_starts, in_stored, true)
+    all(told, in_blocks, in_starts, in_stored, true)
+}
+
+// How long the scratch after the working column is lent: apart, since a call is dear to prove in a function that hands on thirty places.
+struct Lengths {
+    inverse: usize,
+    sizes: usize,
+    count: usize,
+    heads: usize,
+    into: usize,
+    stamps: usize,
+    table: usize,
+    upper: usize,
+    bodies: usize,
+    units: usize,
+    pivots: usize,
+    places: usize,
+}
+
+fn scratch_lengths(h: &[u32; 44]) -> Lengths
+    ensures { λ r. ⌜ (r .inverse ≤ 4112) × (r .sizes ≤ 4112) × (r .count ≤ 4112) × (r .heads ≤ 4112) × (r .into ≤ 4112) × (r .stamps ≤ 4112) × (r .table ≤ 65552) × (r .upper ≤ 65552) × (r .bodies ≤ 65552) × (r .units ≤ 4112) × (r .pivots ≤ 4112) × (r .places ≤ 4112) ⌝ }
+{
+    Lengths {
+        inverse: held(h[15], room::BLOCKS),
+        sizes: held(h[16], room::BLOCKS),
+        count: held(h[17], room::BLOCKS),
+        heads: held(h[18], room::BLOCKS),
+        into: held(h[19], room::BLOCKS),
+        stamps: held(h[20], room::BLOCKS),
+        table: held(h[21], room::STORED),
+        upper: held(h[22], room::STORED),
+        bodies: held(h[23], room::STORED),
+        units: held(h[24], room::BLOCKS),
+        pivots: held(h[25], room::BLOCKS),
+        places: held(h[26], room::BLOCKS),
+    }
 }

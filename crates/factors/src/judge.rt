@@ -2,8 +2,11 @@
 // blocks, L's numbers, the numbers of the diagonal factors, the scalars, the numbers of the working column; 43 is 0 where all is
 // unchanged, 1 where only scratch is written, 2 where the outputs are too, 3 where their floats are NaN.
 use crate::numbers;
-use crate::room::size;
-use crate::words;
+use word_list::lent::all;
+use word_list::lent::output;
+use word_list::lent::scratch;
+use word_list::tally::sum;
+use word_list::words::size;
 
 // How many places of an output are written.
 fn written(h: &[u32; 44], need: usize) -> usize {
@@ -15,33 +18,13 @@ fn cleared(h: &[u32; 44], need: usize) -> usize {
     if h[43] == 0 { 0 } else { need }
 }
 
-fn more(n: usize) -> usize {
-    if n < usize::MAX { n + 1 } else { n }
-}
-
-pub fn all(a: bool, b: bool, c: bool, d: bool, e: bool) -> bool {
-    if !a {
-        return false;
-    }
-    if !b {
-        return false;
-    }
-    if !c {
-        return false;
-    }
-    if !d {
-        return false;
-    }
-    e
-}
-
 // L's numbers, the diagonal factors and d come next in the list. The working column is scratch.
 pub fn floats(
     h: &[u32; 44],
-    l_values: &[f64; 65536],
-    diag: &[f64; 16384],
-    d: &[f64; 16384],
-    column: &[f64; 16384],
+    l_values: &[f64; 40960],
+    diag: &[f64; 40960],
+    d: &[f64; 40960],
+    column: &[f64; 40960],
 ) -> bool {
     let bad = h[43] == 3;
     let in_l = numbers::output(l_values, written(h, size(h[39])), bad);
@@ -57,18 +40,18 @@ pub fn tables(
     order: &[u32; 4112],
     parents: &[u32; 4112],
     l_starts: &[u32; 4112],
-    l_rows: &[u32; 32768],
-    l_offsets: &[u32; 32768],
+    l_rows: &[u32; 65552],
+    l_offsets: &[u32; 65552],
 ) -> bool {
     let blocks = written(h, size(h[0]));
-    let starts = written(h, more(size(h[0])));
+    let starts = written(h, sum(size(h[0]), 1));
     let stored = written(h, size(h[38]));
-    let ends = written(h, more(size(h[38])));
-    let a = words::output(order, blocks);
-    let b = words::output(parents, blocks);
-    let c = words::output(l_starts, starts);
-    let d = words::output(l_rows, stored);
-    let e = words::output(l_offsets, ends);
+    let ends = written(h, sum(size(h[38]), 1));
+    let a = output(order, blocks);
+    let b = output(parents, blocks);
+    let c = output(l_starts, starts);
+    let d = output(l_rows, stored);
+    let e = output(l_offsets, ends);
     all(a, b, c, d, e)
 }
 
@@ -82,11 +65,11 @@ pub fn scratch_blocks(
     places: &[u32; 4112],
 ) -> bool {
     let need = cleared(h, size(h[0]));
-    let a = words::scratch(inverse, need);
-    let b = words::scratch(sizes, need);
-    let c = words::scratch(count, need);
-    let d = words::scratch(stamps, need);
-    let e = words::scratch(places, need);
+    let a = scratch(inverse, need);
+    let b = scratch(sizes, need);
+    let c = scratch(count, need);
+    let d = scratch(stamps, need);
+    let e = scratch(places, need);
     all(a, b, c, d, e)
 }
 
@@ -98,24 +81,24 @@ pub fn scratch_starts(
     unit_starts: &[u32; 4112],
     d_starts: &[u32; 4112],
 ) -> bool {
-    let need = cleared(h, more(size(h[0])));
-    let a = words::scratch(heads, need);
-    let b = words::scratch(into, need);
-    let c = words::scratch(unit_starts, need);
-    let d = words::scratch(d_starts, need);
+    let need = cleared(h, sum(size(h[0]), 1));
+    let a = scratch(heads, need);
+    let b = scratch(into, need);
+    let c = scratch(unit_starts, need);
+    let d = scratch(d_starts, need);
     all(a, b, c, d, true)
 }
 
 // Scratch of as many places as stored blocks, and of one more.
 pub fn scratch_stored(
     h: &[u32; 44],
-    table: &[u32; 20480],
-    upper: &[u32; 20480],
-    bodies: &[u32; 20480],
+    table: &[u32; 65552],
+    upper: &[u32; 65552],
+    bodies: &[u32; 65552],
 ) -> bool {
     let need = cleared(h, size(h[2]));
-    let a = words::scratch(table, need);
-    let b = words::scratch(upper, need);
-    let c = words::scratch(bodies, cleared(h, more(size(h[2]))));
+    let a = scratch(table, need);
+    let b = scratch(upper, need);
+    let c = scratch(bodies, cleared(h, sum(size(h[2]), 1)));
     all(a, b, c, true, true)
 }

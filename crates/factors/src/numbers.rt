@@ -1,9 +1,14 @@
 // The floats of the list, two words each, the low one first: read into a buffer, or compared with one. And the marks that a lent
 // buffer of floats has before a call.
-use crate::words;
-use replay::number;
+use bits::number;
 use replay::same;
-ghost use Prim.Native.Nat.{_<_};
+use word_list::words;
+use word_list::words::whole;
+ghost use mathlib.Core.Path.{_≡_};
+ghost use lib.ListN.{length};
+
+// The room for a buffer of floats.
+pub const ROOM: usize = 40960;
 
 // The first mark; the next are each one more.
 const MARK: f64 = 3000000000.5;
@@ -29,19 +34,8 @@ pub fn float(low: u32, high: u32) -> f64 {
     number(whole(low, high))
 }
 
-// The number of 64 bits with this low and this high word.
-pub fn whole(low: u32, high: u32) -> u64 {
-    wide(low) + 4294967296 * wide(high)
-}
-
-fn wide(x: u32) -> u64
-    ensures { λ r. ⌜ r < 4294967296 ⌝ }
-{
-    x as u64
-}
-
 // Fills the first `upto` places of a buffer from the list, with 0.0 where the input has ended.
-pub fn read(out: &mut [f64], upto: usize) {
+fn read(out: &mut [f64], upto: usize) {
     for k in 0..upto {
         let x = next();
         put(out, k, x.value);
@@ -53,6 +47,15 @@ fn put(out: &mut [f64], k: usize, x: f64) {
     if k < out.len() {
         out[k] = x;
     }
+}
+
+// The next floats of the list as a buffer.
+pub fn values(upto: usize) -> [f64; 40960]
+    ensures { λ r. ⌜ 40960 ≡ length r ⌝ }
+{
+    let mut x = [0.0; 40960];
+    read(&mut x, upto);
+    x
 }
 
 // Whether the first `upto` places hold the floats that come next, which are read in any case, or NaN throughout where `bad` says so;
@@ -121,12 +124,21 @@ fn zeros(a: &[f64], upto: usize) -> bool {
 }
 
 // Sets the mark of each place.
-pub fn mark(out: &mut [f64]) {
+fn mark(out: &mut [f64]) {
     let mut m = MARK;
     for k in 0..out.len() {
         out[k] = m;
         m = m + 1.0;
     }
+}
+
+// A buffer of floats to lend, marked.
+pub fn lent() -> [f64; 40960]
+    ensures { λ r. ⌜ 40960 ≡ length r ⌝ }
+{
+    let mut x = [0.0; 40960];
+    mark(&mut x);
+    x
 }
 
 // Whether each place from `from` on has its mark.

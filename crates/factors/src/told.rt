@@ -1,9 +1,9 @@
 // What a call answers, and whether the list says the same.
 use crate::numbers::float;
-use crate::numbers::whole;
-use crate::room::size;
 use factorize::Factorized;
 use replay::same;
+use word_list::words::size;
+use word_list::words::whole;
 
 pub struct Told {
     // The refusal's number, 0 for none.

@@ -3,28 +3,33 @@
 use crate::told::matches;
 use crate::told::of_plan;
 use crate::told::of_system;
-use crate::told::size;
-use crate::told::whole;
-use crate::walks::walked;
-use crate::words;
-use replay::number;
+use bits::number;
+use word_list::lent::all;
+use word_list::lent::mark;
+use word_list::lent::output;
+use word_list::lent::scratch;
+use word_list::room::BLOCKS;
+use word_list::room::STORED;
+use word_list::room::blocks;
+use word_list::room::held;
+use word_list::room::lent_blocks;
+use word_list::room::lent_stored;
+use word_list::room::stored;
+use word_list::tally::sum;
+use word_list::words;
+use word_list::words::size;
+use word_list::words::whole;
 ghost use mathlib.Core.Path.{_≡_};
 ghost use Prim.Native.Nat.{_≤_};
 ghost use lib.ListN.{length};
 
-// The room for a table of blocks, of stored blocks, of L's blocks, and for values.
-const BLOCKS: usize = 4112;
-
-const STORED: usize = 65552;
-
+// The room for a table of L's blocks, and for values.
 const L_ROWS: usize = 131072;
 
 const VALUES: usize = 4096;
 
-// The kinds of a check of a system and of a tree with its walks.
+// The kind of a check of a system.
 const SYSTEM: usize = 14;
-
-const WALKS: usize = 15;
 
 // What a turn at the list comes to.
 pub enum Turn {
@@ -61,9 +66,6 @@ fn judge(kind: usize, h: &[u32; 26]) -> bool {
     if kind == SYSTEM {
         return system(h);
     }
-    if kind == WALKS {
-        return walked(h);
-    }
     planned(h)
 }
 
@@ -81,10 +83,7 @@ fn fits(kind: usize, h: &[u32; 26]) -> bool {
 fn lengths(kind: usize) -> usize
     ensures { λ r. ⌜ r ≤ 17 ⌝ }
 {
-    match kind {
-        SYSTEM | WALKS => 5,
-        _ => 17,
-    }
+    if kind == SYSTEM { 5 } else { 17 }
 }
 
 // The room for table or buffer k: rows, table and upper are as long as the stored blocks, l_rows as L's.
@@ -96,90 +95,22 @@ fn room(k: usize) -> usize {
     }
 }
 
-// The length, at most 4,112.
-pub fn of_blocks(n: u32) -> usize
-    ensures { λ r. ⌜ r ≤ 4112 ⌝ }
-{
-    let k = n as usize;
-    if k > BLOCKS { BLOCKS } else { k }
-}
-
-// The length, at most 65,552.
-fn of_stored(n: u32) -> usize
-    ensures { λ r. ⌜ r ≤ 65552 ⌝ }
-{
-    let k = n as usize;
-    if k > STORED { STORED } else { k }
-}
-
-// The length, at most 131,072.
-fn of_l(n: u32) -> usize
-    ensures { λ r. ⌜ r ≤ 131072 ⌝ }
-{
-    let k = n as usize;
-    if k > L_ROWS { L_ROWS } else { k }
-}
-
-// The length, at most 4,096.
-fn of_values(n: u32) -> usize
-    ensures { λ r. ⌜ r ≤ 4096 ⌝ }
-{
-    let k = n as usize;
-    if k > VALUES { VALUES } else { k }
-}
-
-// The next words of the list as a table of blocks.
-pub fn blocks(upto: usize) -> [u32; 4112]
-    ensures { λ r. ⌜ 4112 ≡ length r ⌝ }
-{
-    let mut x = [0u32; 4112];
-    words::read(&mut x, upto);
-    x
-}
-
-// As a table of stored blocks.
-fn stored(upto: usize) -> [u32; 65552]
-    ensures { λ r. ⌜ 65552 ≡ length r ⌝ }
-{
-    let mut x = [0u32; 65552];
-    words::read(&mut x, upto);
-    x
-}
-
-// A buffer of blocks, marked.
-pub fn lent_blocks() -> [u32; 4112]
-    ensures { λ r. ⌜ 4112 ≡ length r ⌝ }
-{
-    let mut x = [0u32; 4112];
-    words::mark(&mut x);
-    x
-}
-
-// A buffer of stored blocks, marked.
-fn lent_stored() -> [u32; 65552]
-    ensures { λ r. ⌜ 65552 ≡ length r ⌝ }
-{
-    let mut x = [0u32; 65552];
-    words::mark(&mut x);
-    x
-}
-
 // A buffer of L's blocks, marked.
 fn lent_l() -> [u32; 131072]
     ensures { λ r. ⌜ 131072 ≡ length r ⌝ }
 {
     let mut x = [0u32; 131072];
-    words::mark(&mut x);
+    mark(&mut x);
     x
 }
 
 // A plan: its tables are the next words of the list.
 fn planned(h: &[u32; 26]) -> bool {
-    let k0 = of_blocks(h[0]);
-    let k1 = of_blocks(h[1]);
-    let k2 = of_stored(h[2]);
-    let k3 = of_blocks(h[3]);
-    let k4 = of_blocks(h[4]);
+    let k0 = held(h[0], BLOCKS);
+    let k1 = held(h[1], BLOCKS);
+    let k2 = held(h[2], STORED);
+    let k3 = held(h[3], BLOCKS);
+    let k4 = held(h[4], BLOCKS);
     let dims = blocks(k0);
     let starts = blocks(k1);
     let rows = stored(k2);
@@ -204,18 +135,18 @@ fn lending(
     perm: &[u32],
     late: &[u32],
 ) -> bool {
-    let k5 = of_blocks(h[5]);
-    let k6 = of_blocks(h[6]);
-    let k7 = of_blocks(h[7]);
-    let k8 = of_l(h[8]);
-    let k9 = of_blocks(h[9]);
-    let k10 = of_blocks(h[10]);
-    let k11 = of_blocks(h[11]);
-    let k12 = of_blocks(h[12]);
-    let k13 = of_blocks(h[13]);
-    let k14 = of_blocks(h[14]);
-    let k15 = of_stored(h[15]);
-    let k16 = of_stored(h[16]);
+    let k5 = held(h[5], BLOCKS);
+    let k6 = held(h[6], BLOCKS);
+    let k7 = held(h[7], BLOCKS);
+    let k8 = held(h[8], L_ROWS);
+    let k9 = held(h[9], BLOCKS);
+    let k10 = held(h[10], BLOCKS);
+    let k11 = held(h[11], BLOCKS);
+    let k12 = held(h[12], BLOCKS);
+    let k13 = held(h[13], BLOCKS);
+    let k14 = held(h[14], BLOCKS);
+    let k15 = held(h[15], STORED);
+    let k16 = held(h[16], STORED);
     let mut order = lent_blocks();
     let mut parents = lent_blocks();
     let mut l_starts = lent_blocks();
@@ -252,23 +183,7 @@ fn lending(
     let clear_blocks = scratch_blocks(h, &inverse, &sizes, &count, &stamps);
     let clear_starts = scratch_starts(h, &heads, &into);
     let clear_stored = scratch_stored(h, &table, &upper);
-    all_five(answered, written, clear_blocks, clear_starts, clear_stored)
-}
-
-fn all_five(a: bool, b: bool, c: bool, d: bool, e: bool) -> bool {
-    if !a {
-        return false;
-    }
-    if !b {
-        return false;
-    }
-    if !c {
-        return false;
-    }
-    if !d {
-        return false;
-    }
-    e
+    all(answered, written, clear_blocks, clear_starts, clear_stored)
 }
 
 // Whether the outputs hold what the list says, and beyond it their marks: all of them where it says nothing.
@@ -285,25 +200,12 @@ fn outputs(
     let b = output(parents, blocks);
     let c = output(l_starts, starts);
     let d = output(l_rows, size(h[21]));
-    all_five(a, b, c, d, true)
-}
-
-fn output(a: &[u32], need: usize) -> bool {
-    let same = words::listed(a, need);
-    if !words::kept(a, need) {
-        return false;
-    }
-    same
+    all(a, b, c, d, true)
 }
 
 // How many places of a scratch buffer end as 0: its need where the list says so, else none.
 fn cleared(h: &[u32; 26], need: usize) -> usize {
     if h[20] == 1 { need } else { 0 }
-}
-
-// One more than the blocks.
-fn more(n: usize) -> usize {
-    if n < BLOCKS { n + 1 } else { n }
 }
 
 fn scratch_blocks(
@@ -318,11 +220,11 @@ fn scratch_blocks(
     let b = scratch(sizes, need);
     let c = scratch(count, need);
     let d = scratch(stamps, need);
-    all_five(a, b, c, d, true)
+    all(a, b, c, d, true)
 }
 
 fn scratch_starts(h: &[u32; 26], heads: &[u32; 4112], into: &[u32; 4112]) -> bool {
-    let need = cleared(h, more(size(h[0])));
+    let need = cleared(h, sum(size(h[0]), 1));
     if !scratch(heads, need) {
         return false;
     }
@@ -337,22 +239,14 @@ fn scratch_stored(h: &[u32; 26], table: &[u32; 65552], upper: &[u32; 65552]) -> 
     scratch(upper, need)
 }
 
-// Zeros up to the need, and marks beyond.
-pub fn scratch(a: &[u32], need: usize) -> bool {
-    if !words::zeros(a, need) {
-        return false;
-    }
-    words::kept(a, need)
-}
-
 // A check of a system: the count of values at 5, the tolerance at 6 and 7.
 fn system(h: &[u32; 26]) -> bool {
-    let k0 = of_blocks(h[0]);
-    let k1 = of_blocks(h[1]);
-    let k2 = of_blocks(h[2]);
-    let k3 = of_blocks(h[3]);
-    let k4 = of_blocks(h[4]);
-    let k5 = of_values(h[5]);
+    let k0 = held(h[0], BLOCKS);
+    let k1 = held(h[1], BLOCKS);
+    let k2 = held(h[2], BLOCKS);
+    let k3 = held(h[3], BLOCKS);
+    let k4 = held(h[4], BLOCKS);
+    let k5 = held(h[5], VALUES);
     let dims = blocks(k0);
     let starts = blocks(k1);
     let rows = blocks(k2);

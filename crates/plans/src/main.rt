@@ -3,24 +3,24 @@
 mod call;
 mod print;
 mod told;
-mod walks;
-mod words;
 
 use crate::call::Turn;
+use word_list::print::bad;
+use word_list::tally::tally;
 
 // The turns at the list at most, its end among them.
 const MOST: u64 = 65536;
 
 fn main() {
-    let mut cases = [0u64; 16];
-    let mut right = [0u64; 16];
+    let mut cases = [0usize; 16];
+    let mut right = [0usize; 16];
     if replay(&mut cases, &mut right) {
         print::summary(&cases, &right);
     }
 }
 
 // Every case to the end of the list, counted at its kind. False where the list is bad.
-fn replay(cases: &mut [u64; 16], right: &mut [u64; 16]) -> bool {
+fn replay(cases: &mut [usize; 16], right: &mut [usize; 16]) -> bool {
     let mut k: u64 = 0;
     while k < MOST {
         k += 1;
@@ -28,30 +28,19 @@ fn replay(cases: &mut [u64; 16], right: &mut [u64; 16]) -> bool {
         match turn {
             Turn::End => return true,
             Turn::Bad => {
-                print::bad(k);
+                bad(k);
                 return false;
             }
             Turn::Right { kind } => {
-                tally(cases, kind);
-                tally(right, kind);
+                tally(cases, kind, 1);
+                tally(right, kind, 1);
             }
             Turn::Wrong { kind } => {
-                tally(cases, kind);
+                tally(cases, kind, 1);
                 print::wrong(k, kind);
             }
         }
     }
-    print::bad(k);
+    bad(k);
     false
-}
-
-fn tally(counts: &mut [u64; 16], kind: usize) {
-    if kind < 16 {
-        counts[kind] = more(counts[kind]);
-    }
-}
-
-// One more, or the greatest number again.
-fn more(n: u64) -> u64 {
-    if n < u64::MAX { n + 1 } else { n }
 }

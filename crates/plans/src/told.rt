@@ -1,7 +1,8 @@
 // What a call answers, and whether the list says the same.
 use checks::System;
 use plan::Planned;
-ghost use Prim.Native.Nat.{_<_};
+use word_list::words::size;
+use word_list::words::whole;
 
 pub struct Told {
     // The refusal's number, 0 for none.
@@ -83,20 +84,4 @@ pub fn matches(h: &[u32; 26], t: Told) -> bool {
         return false;
     }
     whole(h[23], h[24]) == t.products
-}
-
-// The number of 64 bits with this low and this high word.
-pub fn whole(low: u32, high: u32) -> u64 {
-    wide(low) + 4294967296 * wide(high)
-}
-
-fn wide(x: u32) -> u64
-    ensures { λ r. ⌜ r < 4294967296 ⌝ }
-{
-    x as u64
-}
-
-// A word as a size.
-pub fn size(x: u32) -> usize {
-    x as usize
 }

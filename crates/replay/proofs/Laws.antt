@@ -1,17 +1,17 @@
--- The laws of words and of single floats: which bits are a NaN's, and when two floats are the same. Assumes nothing.
-use mathlib.Core.Path.{_≡_, refl, sym, subst, _∙_, ap}
-use mathlib.Core.Bool.{Bool, true, false, not}
+-- The laws of words, and when two floats are the same. Assumes nothing.
+use mathlib.Core.Path.{_≡_, sym, subst, _∙_, ap}
+use mathlib.Core.Bool.{true, false}
 use mathlib.Core.List.{List}
-use Prim.Native.Nat.{ℕ, _+_, _*_, _/_, _%_, _≤_, _<_}
-use lib.Dec.{T, ltb, eqb}
+use Prim.Native.Nat.{ℕ, _+_, _*_, _/_, _≤_, _<_}
+use lib.Dec.{T, eqb}
 use lib.ListN.{length, getD, set}
 use lib.Seq.{getD-set-same, getD-set-other}
-use lib.Ieee.{Float, nan, inf, fin, binary64, isNan, ne, fits, nanBits, ofBits, toBits}
-use lib.Ieee.Bits.{ofBits-toBits, nanBits-is, nanBits-above}
+use lib.Ieee.{Float, nan, binary64, ne, fits, ofBits, toBits}
+use lib.Ieee.Bits.{ofBits-toBits}
 use native.Mathlib.Omega.{arith}
 use borrow.Author.Count.{below-more}
 use borrow.Author.Tests.{lt-ltb, le-ltb, eq-eqb, eqb-true}
-use Rattle.scalar.proofs.Floats.{nan-test}
+use Rattle.bits.proofs.Laws.{is-nan}
 use Rattle.replay.specs.Words.{fourAt, wordAt, floatAt, Same}
 
 pub never : {A : Type 0} → false ≡ true → A
@@ -27,31 +27,7 @@ pub word-out : (s : List ℕ) (at : ℕ) → length s / 8 ≤ at → 0 ≡ wordA
 unfolding wordAt
 word-out s at h = rw (le-ltb at (length s / 8) h)
 
--- ---- bits
-
--- without the sign's bit, a NaN's bits are above the infinity's
-above : (n : ℕ) → nanBits binary64 n ≡ ltb 0x7ff0_0000_0000_0000 (n % 0x8000_0000_0000_0000)
-above n = nanBits-above binary64 n
-
-only-nan : (x : Float) → isNan x ≡ true → x ≡ nan
-unfolding isNan
-only-nan nan h = refl
-only-nan (inf s) h = cc
-only-nan (fin s m e) h = cc
-
-pub nan-bits : (n : ℕ) → 0x7ff0_0000_0000_0000 < n % 0x8000_0000_0000_0000 → nan ≡ ofBits binary64 n
-nan-bits n h = sym (only-nan _ (sym (nanBits-is binary64 n) ∙ above n ∙ lt-ltb _ _ h))
-
-pub no-nan-bits : (n : ℕ) → n % 0x8000_0000_0000_0000 ≤ 0x7ff0_0000_0000_0000 → T (not (nanBits binary64 n))
-no-nan-bits n h = subst (λ (b : Bool). T (not b)) (sym (above n ∙ le-ltb _ _ h)) tt
-
 -- ---- two floats
-
-pub no-nan : (x : Float) → ne x x ≡ false → T (not (isNan x))
-no-nan x h = subst (λ (b : Bool). T (not b)) (sym (nan-test x ∙ h)) tt
-
-is-nan : (x : Float) → ne x x ≡ true → x ≡ nan
-is-nan x h = only-nan x (nan-test x ∙ h)
 
 pub same-nan : (a b : Float) → ne a a ≡ true → Same a b (ne b b)
 same-nan a b h = record { only = λ k. is-nan a h ∙ sym (is-nan b k); also = λ e. subst (λ (x : Float). ne x x ≡ true) e h }

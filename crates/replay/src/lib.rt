@@ -1,8 +1,7 @@
 // The words of a list of cases, 64 bits each, little-endian: read as counts and floats, and compared. A word past the end is 0.
-use scalar::not_a_number;
+use bits::number;
 ghost use mathlib.Core.Path.{_≡_};
 ghost use Prim.Native.Nat.{_+_, _<_};
-ghost use lib.Ieee.{binary64, ofBits};
 ghost use lib.ListN.{length};
 ghost use Rattle.replay.specs.Words.{twoAt, fourAt, wordAt, wordFloat, onward, Stands, Same, Compared};
 
@@ -96,14 +95,4 @@ fn wide(x: u8) -> u64
     ensures { λ r. ⌜ (r ≡ x) × (r < 256) ⌝ }
 {
     x as u64
-}
-
-// Bits as a float. Every NaN's bits are the one NaN.
-pub fn number(bits: u64) -> f64
-    ensures { λ r. ⌜ r ≡ ofBits binary64 bits ⌝ }
-{
-    if bits % 0x8000_0000_0000_0000 > 0x7ff0_0000_0000_0000 {
-        return not_a_number();
-    }
-    f64::from_bits(bits)
 }

@@ -1,6 +1,6 @@
 // Readers of little-endian numbers, for callers who know that the bytes are there. Where each part of a sheet lies is said in
 // specs/Layout.antt.
-use replay::number;
+use bits::number;
 ghost use mathlib.Core.Path.{_≡_};
 ghost use Prim.Native.Nat.{ℕ, _+_, _*_, _≤_, _<_};
 ghost use mathlib.Core.List.{_++_};

@@ -3,7 +3,7 @@ use Prim.Native.Nat.{ℕ, _<_}
 use mathlib.Core.Path.{_≡_, sym, subst, _∙_}
 use mathlib.Core.Logic.{_↔_}
 use mathlib.Core.Bool.{Bool}
-use mathlib.Core.List.{List, []}
+use mathlib.Core.List.{List, [], reverse}
 use native.Mathlib.Omega.{arith}
 use lib.Dec.{T}
 use lib.ListN.{getD}
@@ -16,16 +16,20 @@ use Rattle.graph.proofs.SymbolicLaws.{columns-length, rows-right, rows-ascendin
 use Rattle.graph.proofs.TreeLaws.{reach-tree}
 use Rattle.buckets.specs.Buckets.{scatter}
 use Rattle.buckets.proofs.Laws.{scatter-length, scatter-at}
+use Rattle.symbolic.proofs.Climbs.{elem-back, elem-forth, uniq-back}
 
 module _ (linked : ℕ → ℕ → Bool) (n : ℕ) (symm : (a b : ℕ) → T (linked a b) → T (linked b a)) where
+  -- the columns that reach column j, first found first
   abbrev pub reached : ℕ → List ℕ
-  reached j = reach linked n (treeParent linked n) j
+  reached j = reverse (reach linked n (treeParent linked n) j)
 
   pub reached-once : (j : ℕ) → j < n → Uniq (reached j)
-  reached-once j h = subst Uniq (sym (reach-tree linked n symm j h)) (reach-uniq linked n symm j h)
+  reached-once j h = uniq-back (reach linked n (treeParent linked n) j) (subst Uniq (sym (reach-tree linked n symm j h)) (reach-uniq linked n symm j h))
 
   pub reached-rows : (j k : ℕ) → j < n → T (elem k (reached j)) ↔ ((k < j) × T (elem j (rows linked n k)))
-  reached-rows j k h = subst (λ (l : List ℕ). T (elem k l) ↔ ((k < j) × T (elem j (rows linked n k)))) (sym (reach-tree linked n symm j h)) (reach-rows linked n symm j k h)
+  reached-rows j k h =
+      let r = subst (λ (l : List ℕ). T (elem k l) ↔ ((k < j) × T (elem j (rows linked n k)))) (sym (reach-tree linked n symm j h)) (reach-rows linked n symm j k h) in
+      (λ t. r .0 (elem-back k (reach linked n (treeParent linked n) j) t), λ t. elem-forth k (reach linked n (treeParent linked n) j) (r .1 t))
 
   -- column k
   scattered : (k : ℕ) → k < n → getD (scatter reached n n) k [] ≡ rows linked n k

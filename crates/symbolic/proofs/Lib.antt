@@ -1,4 +1,5 @@
 -- What belongs to no one function. Each module says at its top what it shows.
+pub mod Climbs  -- the climbs that count or store what they find
 pub mod Walks  -- the walk over stamps is the theory's walk
 pub mod Columns  -- the passes make the theory's columns
 pub mod Passes  -- the invariants of the two passes

@@ -1,14 +1,13 @@
--- The sums of the counting pass: over the blocks so far, over what is left of a list, and over L by columns instead of rows. Assumes nothing.
+-- The sums of the counting pass: over the blocks so far, over a row, and over L by columns instead of rows. Assumes nothing.
 use Prim.Native.Nat.{ℕ, _+_, _-_, _*_, _/_, _<_, _≤_}
-use mathlib.Core.Path.{_≡_, refl, sym, ap, subst, _∙_}
-use mathlib.Core.Bool.{Bool, true, false}
-use mathlib.Core.List.{List, _∷_}
+use mathlib.Core.Path.{_≡_, refl, sym, ap, _∙_}
+use mathlib.Core.Bool.{Bool}
+use mathlib.Core.List.{List, [], _∷_}
 use native.Mathlib.Omega.{arith}
 use native.Mathlib.Numerals.{add-one}
-use native.Mathlib.Nat.{mul-le-mul, mul-suc}
+use native.Mathlib.Nat.{mul-le-mul, mul-suc, mul-zero, mul-add}
 use lib.Dec.{T}
-use lib.ListN.{length, getD, drop, drop-of-length-le}
-use lib.Seq.{drop-cons}
+use lib.ListN.{length, getD}
 use Rattle.graph.specs.Sets.{elem, from, between, sum}
 use Rattle.graph.specs.Symbolic.{reach, rows}
 use Rattle.graph.specs.Count.{productsOf}
@@ -17,7 +16,6 @@ use Rattle.graph.proofs.CountLaws.{same-test}
 use Rattle.graph.proofs.SumLaws.{sum-ext, sum-swap, weigh, sum-weights}
 use Rattle.graph.proofs.SymbolicLaws.{rows-right, rows-ascending}
 use Rattle.buckets.proofs.Laws.{sum-snoc}
-use Rattle.symbolic.specs.Columns.{Sized, area}
 use Rattle.symbolic.proofs.Columns.{reached, reached-once, reached-rows}
 
 -- ---- the sum of f over the first k numbers
@@ -78,44 +76,14 @@ pub total-ends : (count : List ℕ) (stored products k : ℕ) → Totalled count
 total-ends count stored products k t h =
     (t .blocks ∙ up-all (λ i. getD count i 0) (length count) k (t .inside) h, t .work ∙ up-all (λ i. productsOf (getD count i 0)) (length count) k (t .inside) h)
 
--- ---- the areas of a row
+-- ---- the areas of a row: its dimension times the sum of the columns'
 
-pub area-le : (n : ℕ) (sizes : List ℕ) → Sized n sizes → (j k : ℕ) → area sizes j k ≤ 256
-area-le n sizes s j k = mul-le-mul (s .small j) (s .small k)
+pub sum-times : (d : ℕ) (l : List ℕ) (f : ℕ → ℕ) → sum l (λ k. d * f k) ≡ d * sum l f
+sum-times d [] f = sym (mul-zero d)
+sum-times d (x ∷ l) f = ap (λ (s : ℕ). d * f x + s) (sum-times d l f) ∙ sym (mul-add d (f x) (sum l f))
 
-module _ (sizes : List ℕ) (j : ℕ) where
-  -- at the head of the loop: what was added, and what is left
-  pub record Adding (ks : List ℕ) (numbers t : ℕ) : Type 0 where
-    pub inside : t ≤ length ks
-    pub all : sum ks (area sizes j) ≡ numbers + sum (drop t ks) (area sizes j)
-    pub small : numbers ≤ 256 * t
-
-  pub add-begins : (ks : List ℕ) → Adding ks 0 0
-  add-begins ks = record { inside = omega arith; all = nothing (sum ks (area sizes j)); small = omega arith }
-    where
-      nothing : (s : ℕ) → s ≡ 0 + s
-      nothing s = omega arith
-
-  pub add-turns : (ks : List ℕ) (numbers t : ℕ) → Adding ks numbers t → t < length ks → area sizes j (getD ks t 0) ≤ 256 → Adding ks (numbers + area sizes j (getD ks t 0)) (t + 1)
-  add-turns ks numbers t a h le =
-      let front : drop t ks ≡ getD ks t 0 ∷ drop (t + 1) ks = drop-cons ks t 0 h ∙ ap (λ (m : ℕ). getD ks t 0 ∷ drop m ks) (sym (add-one t)) in
-      let left : sum (drop t ks) (area sizes j) ≡ area sizes j (getD ks t 0) + sum (drop (t + 1) ks) (area sizes j) = ap (λ (l : List ℕ). sum l (area sizes j)) front in
-      record { inside = omega arith; all = sums _ _ _ _ _ (a .all) left; small = bound _ _ _ (a .small) le }
-    where
-      sums : (s n x y z : ℕ) → s ≡ n + x → x ≡ y + z → s ≡ n + y + z
-      sums s n x y z e f = omega arith
-
-      bound : (n t a : ℕ) → n ≤ 256 * t → a ≤ 256 → n + a ≤ 256 * (t + 1)
-      bound n t a h g = omega arith
-
-  pub add-ends : (ks : List ℕ) (numbers t : ℕ) → Adding ks numbers t → length ks ≤ t → (numbers ≡ sum ks (area sizes j)) × (numbers ≤ 256 * length ks)
-  add-ends ks numbers t a h =
-      let none : sum (drop t ks) (area sizes j) ≡ 0 = ap (λ (l : List ℕ). sum l (area sizes j)) (drop-of-length-le ks h) in
-      let same : t ≡ length ks = omega (arith, a .inside) in
-      (sums _ _ _ (a .all) none, subst (λ (m : ℕ). numbers ≤ 256 * m) same (a .small))
-    where
-      sums : (s n x : ℕ) → s ≡ n + x → x ≡ 0 → n ≡ s
-      sums s n x e f = omega arith
+pub times-le : (d r : ℕ) → d ≤ 16 → r ≤ 65536 → d * r ≤ 1048576
+times-le d r h g = mul-le-mul h g
 
 -- ---- by rows, or by columns
 

@@ -1,12 +1,12 @@
 -- The invariants of the counting pass and of the filling pass: how each begins, what it may ask, how it turns and ends. Assumes nothing.
 use Prim.Native.Nat.{ℕ, _+_, _*_, _<_, _≤_}
 use mathlib.Core.Path.{_≡_, refl, sym, ap, ap₂, subst, _∙_}
-use mathlib.Core.List.{List, []}
+use mathlib.Core.List.{List, [], reverse}
 use native.Mathlib.Omega.{arith}
 use native.Mathlib.Numerals.{add-one}
 use lib.Dec.{T}
-use lib.ListN.{length, getD, take, replicate, length-replicate, getD-replicate, length-map}
-use lib.Seq.{getD-take, length-take-le}
+use lib.ListN.{length, getD, set, take, replicate, length-replicate, getD-replicate, length-map}
+use lib.Seq.{slice, getD-take, length-take-le}
 use Rattle.graph.specs.Sets.{elem, between, sum, gather, Uniq}
 use Rattle.graph.proofs.SumLaws.{sum-ext}
 use Rattle.graph.specs.Symbolic as L
@@ -17,8 +17,11 @@ use Rattle.buckets.proofs.Laws.{appends-lengths, lengths-at, scatter-few, scatt
 use Rattle.buckets.proofs.Turns.{before-small}
 use Rattle.elimination_tree.specs.Tree.{linkedUp}
 use Rattle.elimination_tree.proofs.Links.{linked-symm}
-use Rattle.symbolic.specs.Columns.{Tree, Below, Sized, found, columnsOf, area, numbersOf}
-use Rattle.symbolic.proofs.Numbers.{upTo, up-next, up-all, by-columns}
+use Rattle.symbolic.specs.Columns.{Tree, Below, found, columnsOf, area, numbersOf}
+use Rattle.symbolic.proofs.Numbers.{upTo, up-next, up-all, sum-times, by-columns}
+use Rattle.reach.specs.Reach.{reached}
+use Rattle.symbolic.proofs.Climbs.{elem-forth}
+use Rattle.symbolic.proofs.Walks.{part-reach, part-below}
 use Rattle.symbolic.proofs.Columns.{reached-once, reached-rows, columns-made}
 
 -- no stamp is above 0 where all are 0
@@ -28,70 +31,87 @@ below-none stamp n e i h =
     let v = ap (λ (l : List ℕ). getD l i 0) e ∙ getD-replicate n i 0 0 (subst (λ (m : ℕ). i < m) (ap length e ∙ length-replicate n 0) h) in omega arith
 
 module _ (starts rows : List ℕ) (n : ℕ) where
+  -- the columns that reach column j, first found first
+  abbrev pub climbed : ℕ → List ℕ
+  climbed j = reverse (found starts rows n j)
+
   -- the columns after j turns
   abbrev pub made : ℕ → List (List ℕ)
-  made j = scatter (found starts rows n) n j
+  made j = scatter climbed n j
 
   symm : (a b : ℕ) → T (linkedUp starts rows a b) → T (linkedUp starts rows b a)
   symm a b t = linked-symm starts rows a b t
 
-  once : (i : ℕ) → i < n → Uniq (found starts rows n i)
+  once : (i : ℕ) → i < n → Uniq (climbed i)
   once i h = reached-once (linkedUp starts rows) n symm i h
 
   pub all-made : made n ≡ columnsOf starts rows n
   all-made = columns-made (linkedUp starts rows) n symm
 
   -- a column that reaches j is before j, and is not full yet
-  pub not-full : (j k : ℕ) → j < n → T (elem k (found starts rows n j)) → (k < n) × (length (getD (made j) k []) < length (getD (columnsOf starts rows n) k []))
+  pub not-full : (j k : ℕ) → j < n → T (elem k (climbed j)) → (k < n) × (length (getD (made j) k []) < length (getD (columnsOf starts rows n) k []))
   not-full j k h t =
       let b : k < j = reached-rows (linkedUp starts rows) n symm j k h .0 t .0 in
-      let r = scatter-room (found starts rows n) n once j k h (omega arith) t in
+      let r = scatter-room climbed n once j k h (omega arith) t in
       (omega arith, subst (λ (c : List (List ℕ)). length (getD (made j) k []) < length (getD c k [])) all-made r)
 
-  made-next : (j : ℕ) → made (j + 1) ≡ appends j (found starts rows n j) (made j)
+  made-next : (j : ℕ) → made (j + 1) ≡ appends j (climbed j) (made j)
   unfolding scatter
   made-next j = ap made (add-one j)
 
+  -- ---- the scan of column j, lent as `part`, where no stamp is above j
+
+  module _ (parent : List ℕ) (t : Tree n starts rows parent) (j : ℕ) (h : j < n) (stamp : List ℕ) (long : length stamp ≡ n) (b : Below j stamp)
+      (part : List ℕ) (lent : part ≡ slice (getD starts j 0) (getD starts (j + 1) 0) rows) where
+    pub scan-climbed : reverse (reached parent (j + 1) j part (set stamp j (j + 1)) .found) ≡ climbed j
+    scan-climbed = ap reverse (part-reach starts rows n (t .pattern .few) (t .ascends) parent (t .liu) j h stamp long b part lent)
+
+    scan-below : (stamp′ : List ℕ) → stamp′ ≡ reached parent (j + 1) j part (set stamp j (j + 1)) .stamps → Below (j + 1) stamp′
+    scan-below = part-below starts rows n (t .pattern .few) (t .ascends) parent (t .liu) j h stamp long b part lent
+
+    -- what it finds is there, and is not full yet
+    scan-room : (k : ℕ) → T (elem k (reached parent (j + 1) j part (set stamp j (j + 1)) .found)) → (k < n) × (length (getD (made j) k []) < length (getD (columnsOf starts rows n) k []))
+    scan-room k m = not-full j k h (subst (λ (l : List ℕ). T (elem k l)) scan-climbed (elem-forth k (reached parent (j + 1) j part (set stamp j (j + 1)) .found) m))
+
   -- ---- the counting pass
 
-  pub record Counting (parent stamp out count : List ℕ) (j : ℕ) : Type 0 where
+  pub record Counting (parent stamp count : List ℕ) (j : ℕ) : Type 0 where
     pub tree : Tree n starts rows parent
-    pub sizes : (length stamp ≡ n) × (length out ≡ n) × (length count ≡ n)
+    pub sizes : (length stamp ≡ n) × (length count ≡ n)
     pub below : Below j stamp
     pub inside : j ≤ n
     pub same : count ≡ lengths (made j)
 
-  pub count-begins : (parent stamp out count : List ℕ) → Tree n starts rows parent → stamp ≡ replicate n 0 → length out ≡ n → count ≡ replicate n 0 → Counting parent stamp out count 0
+  pub count-begins : (parent stamp count : List ℕ) → Tree n starts rows parent → stamp ≡ replicate n 0 → count ≡ replicate n 0 → Counting parent stamp count 0
   unfolding scatter
-  count-begins parent stamp out count t es lo ec = record {
+  count-begins parent stamp count t es ec = record {
     tree = t;
-    sizes = (ap length es ∙ length-replicate n 0, lo, ap length ec ∙ length-replicate n 0);
+    sizes = (ap length es ∙ length-replicate n 0, ap length ec ∙ length-replicate n 0);
     below = below-none stamp n es;
     inside = omega arith;
     same = ec ∙ sym (map-replicate {A = List ℕ} {B = ℕ} length n []);
   }
 
-  module _ (parent stamp out count : List ℕ) (j : ℕ) (g : Counting parent stamp out count j) where
-    module _ (h : j < n) (part : List ℕ) (e : part ≡ found starts rows n j) where
-      -- what `tally` asks
-      pub count-asks : Uniq part × Roomy part count 4294967295
+  module _ (parent stamp count : List ℕ) (j : ℕ) (g : Counting parent stamp count j) where
+    module _ (h : j < n) (part : List ℕ) (lent : part ≡ slice (getD starts j 0) (getD starts (j + 1) 0) rows) where
+      -- what `count_climbs` asks
+      pub count-asks : Roomy (reached parent (j + 1) j part (set stamp j (j + 1)) .found) count 4294967295
       unfolding Roomy
-      count-asks = rw e (
-        once j h,
-        λ k m.
-            let r = not-full j k h m in
-            let few = scatter-few (found starts rows n) n once j k (omega arith) (r .0) in
-            let v : getD count k 0 ≡ length (getD (made j) k []) = ap (λ (l : List ℕ). getD l k 0) (g .same) ∙ lengths-at (made j) k in
-            (omega (arith, g .sizes .2), omega (arith, g .tree .pattern .few)),
-      )
+      count-asks k m =
+          let r = scan-room parent (g .tree) j h stamp (g .sizes .0) (g .below) part lent k m in
+          let few = scatter-few climbed n once j k (omega arith) (r .0) in
+          let v : getD count k 0 ≡ length (getD (made j) k []) = ap (λ (l : List ℕ). getD l k 0) (g .same) ∙ lengths-at (made j) k in
+          (omega (arith, g .sizes .1), omega (arith, g .tree .pattern .few))
 
-      pub count-turns : (stamp′ out′ count′ : List ℕ) → length stamp′ ≡ n → length out′ ≡ n → length count′ ≡ n → Below (j + 1) stamp′ → count′ ≡ bumps part count → Counting parent stamp′ out′ count′ (j + 1)
-      count-turns stamp′ out′ count′ ls lo lc b ec = record {
+      pub count-turns : (stamp′ count′ : List ℕ) → length stamp′ ≡ n → length count′ ≡ n → stamp′ ≡ reached parent (j + 1) j part (set stamp j (j + 1)) .stamps
+          → count′ ≡ bumps (reverse (reached parent (j + 1) j part (set stamp j (j + 1)) .found)) count → Counting parent stamp′ count′ (j + 1)
+      count-turns stamp′ count′ ls lc es ec = record {
         tree = g .tree;
-        sizes = (ls, lo, lc);
-        below = b;
+        sizes = (ls, lc);
+        below = scan-below parent (g .tree) j h stamp (g .sizes .0) (g .below) part lent stamp′ es;
         inside = omega arith;
-        same = ec ∙ ap (λ (l : List ℕ). bumps l count) e ∙ ap (bumps (found starts rows n j)) (g .same) ∙ sym (appends-lengths j (found starts rows n j) (made j)) ∙ ap lengths (sym (made-next j));
+        same = ec ∙ ap (λ (l : List ℕ). bumps l count) (scan-climbed parent (g .tree) j h stamp (g .sizes .0) (g .below) part lent)
+            ∙ ap (bumps (climbed j)) (g .same) ∙ sym (appends-lengths j (climbed j) (made j)) ∙ ap lengths (sym (made-next j));
       }
 
     pub count-ends : n ≤ j → count ≡ lengths (columnsOf starts rows n)
@@ -100,31 +120,22 @@ module _ (starts rows : List ℕ) (n : ℕ) where
   -- ---- the numbers of L, added up in the counting pass
 
   pub record Numbering (sizes : List ℕ) (numbers j : ℕ) : Type 0 where
-    pub sum-so-far : numbers ≡ upTo (λ i. sum (found starts rows n i) (area sizes i)) j
+    pub sum-so-far : numbers ≡ upTo (λ i. sum (climbed i) (area sizes i)) j
     pub small : numbers ≤ 1048576 * j
 
   pub number-begins : (sizes : List ℕ) → Numbering sizes 0 0
   number-begins sizes = record { sum-so-far = refl; small = omega arith }
 
   module _ (sizes : List ℕ) (numbers j : ℕ) (g : Numbering sizes numbers j) where
-    module _ (part : List ℕ) (e : part ≡ found starts rows n j) where
-      -- what `row_numbers` asks
-      pub number-asks : j < n → n ≤ 4096 → Sized n sizes → length part ≤ n
-          → (Sized (length sizes) sizes × (j < length sizes) × (length part ≤ 4096)) × ((k : ℕ) → T (elem k part) → k < length sizes)
-      number-asks h few s l = (
-        (subst (λ (m : ℕ). Sized m sizes) (sym (s .count)) s, subst (λ (m : ℕ). j < m) (sym (s .count)) h, omega arith),
-        λ k m. subst (λ (x : ℕ). k < x) (sym (s .count)) (not-full j k h (subst (λ (l : List ℕ). T (elem k l)) e m) .0),
-      )
-
-      pub number-turns : (r : ℕ) → length part ≤ 4096 → r ≡ sum part (area sizes j) → r ≤ 256 * length part → Numbering sizes (numbers + r) (j + 1)
-      number-turns r l same le = record {
-        sum-so-far = ap₂ _+_ (g .sum-so-far) (same ∙ ap (λ (x : List ℕ). sum x (area sizes j)) e) ∙ sym (up-next (λ i. sum (found starts rows n i) (area sizes i)) j);
-        small = omega (arith, g .small);
-      }
+    pub number-turns : (d r : ℕ) → d ≡ getD sizes j 0 → r ≡ sum (climbed j) (λ k. getD sizes k 0) → d * r ≤ 1048576 → Numbering sizes (numbers + d * r) (j + 1)
+    number-turns d r ed er le = record {
+      sum-so-far = ap₂ _+_ (g .sum-so-far) (ap₂ _*_ ed er ∙ sym (sum-times (getD sizes j 0) (climbed j) (λ k. getD sizes k 0))) ∙ sym (up-next (λ i. sum (climbed i) (area sizes i)) j);
+      small = omega (arith, g .small);
+    }
 
     pub number-ends : j ≤ n → n ≤ j → numbers ≡ numbersOf (linkedUp starts rows) n sizes
     number-ends a b =
-        g .sum-so-far ∙ up-all (λ i. sum (found starts rows n i) (area sizes i)) n j a b ∙ by-columns (linkedUp starts rows) n symm (area sizes)
+        g .sum-so-far ∙ up-all (λ i. sum (climbed i) (area sizes i)) n j a b ∙ by-columns (linkedUp starts rows) n symm (area sizes)
 
   -- ---- the filling pass
 
@@ -132,23 +143,23 @@ module _ (starts rows : List ℕ) (n : ℕ) where
   abbrev pub size : ℕ → ℕ
   size k = length (getD (columnsOf starts rows n) k [])
 
-  pub record Filling (parent heads stamp out next table : List ℕ) (j : ℕ) : Type 0 where
+  pub record Filling (parent heads stamp next table : List ℕ) (j : ℕ) : Type 0 where
     pub tree : Tree n starts rows parent
-    pub sizes : (length stamp ≡ n) × (length out ≡ n)
+    pub stamps : length stamp ≡ n
     pub small : length table < 4294967296
     pub first : getD heads 0 0 ≡ 0
     pub below : Below j stamp
     pub inside : j ≤ n
     pub held : Held n size heads next table (made j)
 
-  pub fill-begins : (parent heads stamp out next table : List ℕ) → Tree n starts rows parent → stamp ≡ replicate n 0 → length out ≡ n
-      → Laid (columnsOf starts rows n) heads (length table) → next ≡ take n heads → Filling parent heads stamp out next table 0
+  pub fill-begins : (parent heads stamp next table : List ℕ) → Tree n starts rows parent → stamp ≡ replicate n 0
+      → Laid (columnsOf starts rows n) heads (length table) → next ≡ take n heads → Filling parent heads stamp next table 0
   unfolding scatter
-  fill-begins parent heads stamp out next table t es lo l en =
+  fill-begins parent heads stamp next table t es l en =
       let c = columns-length (linkedUp starts rows) n n in
       record {
         tree = t;
-        sizes = (ap length es ∙ length-replicate n 0, lo);
+        stamps = ap length es ∙ length-replicate n 0;
         small = l .small;
         first = l .first;
         below = below-none stamp n es;
@@ -158,30 +169,27 @@ module _ (starts rows : List ℕ) (n : ℕ) where
             (λ k h. ap (λ (x : List ℕ). getD x k 0) en ∙ getD-take n heads k 0 h);
       }
 
-  module _ (parent heads stamp out next table : List ℕ) (j : ℕ) (g : Filling parent heads stamp out next table j) where
-    module _ (h : j < n) (part : List ℕ) (e : part ≡ found starts rows n j) where
-      room : (k : ℕ) → T (elem k part) → (k < n) × (length (getD (made j) k []) < size k)
-      room k m = not-full j k h (subst (λ (l : List ℕ). T (elem k l)) e m)
+  module _ (parent heads stamp next table : List ℕ) (j : ℕ) (g : Filling parent heads stamp next table j) where
+    module _ (h : j < n) (part : List ℕ) (lent : part ≡ slice (getD starts j 0) (getD starts (j + 1) 0) rows) where
+      -- what `store_climbs` asks
+      pub fill-asks : Roomy (reached parent (j + 1) j part (set stamp j (j + 1)) .found) next (length table)
+      fill-asks = held-roomy n size heads next table (made j) (g .held) (reached parent (j + 1) j part (set stamp j (j + 1)) .found) (scan-room parent (g .tree) j h stamp (g .stamps) (g .below) part lent)
 
-      once-part : Uniq part
-      once-part = subst Uniq (sym e) (once j h)
-
-      -- what `append_all` asks
-      pub fill-asks : Uniq part × Roomy part next (length table) × (length table < 4294967296)
-      fill-asks = (once-part, held-roomy n size heads next table (made j) (g .held) part room, g .small)
-
-      pub fill-turns : (stamp′ out′ next′ table′ : List ℕ) → length stamp′ ≡ n → length out′ ≡ n → length table′ ≡ length table → Below (j + 1) stamp′
-          → next′ ≡ bumps part next → table′ ≡ stores j part next table → Filling parent heads stamp′ out′ next′ table′ (j + 1)
-      fill-turns stamp′ out′ next′ table′ ls lo lt b en et = record {
-        tree = g .tree;
-        sizes = (ls, lo);
-        small = subst (λ (m : ℕ). m < 4294967296) (sym lt) (g .small);
-        first = g .first;
-        below = b;
-        inside = omega arith;
-        held = subst (Held n size heads next′ table′) (ap (λ (l : List ℕ). appends j l (made j)) e ∙ sym (made-next j))
-            (rw (en, et) (held-appends n size heads next table (made j) (g .held) j part once-part room));
-      }
+      pub fill-turns : (stamp′ next′ table′ : List ℕ) → length stamp′ ≡ n → length table′ ≡ length table → stamp′ ≡ reached parent (j + 1) j part (set stamp j (j + 1)) .stamps
+          → next′ ≡ bumps (reverse (reached parent (j + 1) j part (set stamp j (j + 1)) .found)) next → table′ ≡ stores j (reverse (reached parent (j + 1) j part (set stamp j (j + 1)) .found)) next table
+          → Filling parent heads stamp′ next′ table′ (j + 1)
+      fill-turns stamp′ next′ table′ ls lt es en et =
+          let e = scan-climbed parent (g .tree) j h stamp (g .stamps) (g .below) part lent in
+          record {
+            tree = g .tree;
+            stamps = ls;
+            small = subst (λ (m : ℕ). m < 4294967296) (sym lt) (g .small);
+            first = g .first;
+            below = scan-below parent (g .tree) j h stamp (g .stamps) (g .below) part lent stamp′ es;
+            inside = omega arith;
+            held = subst (Held n size heads next′ table′) (sym (made-next j))
+                (rw (en, et, e) (held-appends n size heads next table (made j) (g .held) j (climbed j) (once j h) (λ k m. not-full j k h m)));
+          }
 
     pub fill-ends : n ≤ j → table ≡ gather (L.rows (linkedUp starts rows) n) (between 0 n)
     unfolding L.rows
@@ -202,7 +210,7 @@ module _ (starts rows : List ℕ) (n : ℕ) where
     counts-few k h =
         let b : k < n = subst (λ (m : ℕ). k < m) counts-length h in
         let v : getD count k 0 ≡ length (getD (made n) k []) = ap (λ (l : List ℕ). getD l k 0) e ∙ lengths-at (columnsOf starts rows n) k ∙ ap (λ (c : List (List ℕ)). length (getD c k [])) (sym all-made) in
-        let r = scatter-few (found starts rows n) n once n k (omega arith) b in
+        let r = scatter-few climbed n once n k (omega arith) b in
         omega arith
 
     module _ (heads : List ℕ) (total : ℕ) (places : length heads ≡ n + 1) (all : total ≡ before count (length count))

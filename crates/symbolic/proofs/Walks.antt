@@ -206,21 +206,26 @@ module _ (starts rows : List ℕ) (n : ℕ) (few : n ≤ 4096) (inc : Ascends n 
     unfolding Below
     next-below = walk-low parent liu j h (j + 1) (j + 1) (le-refl (j + 1)) stamps count low-next fresh-next
 
-    -- what the scan says, in the theory's terms: `part` is the column as it is lent
-    module _ (part : List ℕ) (lent : part ≡ slice (getD starts j 0) (getD starts (j + 1) 0) rows) (out out′ stamps′ : List ℕ) (top : ℕ) (places : length out ≡ n)
-        (filled : top + length (code.reached parent (j + 1) j part (set stamps j (j + 1)) .found) ≡ length parent)
-        (listed : out′ ≡ take top out ++ code.reached parent (j + 1) j part (set stamps j (j + 1)) .found)
-        (stamped : stamps′ ≡ code.reached parent (j + 1) j part (set stamps j (j + 1)) .stamps) where
-      ends-within : top ≤ n
-      ends-within = omega (arith, size parent liu j h (j + 1) (j + 1) (le-refl (j + 1)) stamps count low-next fresh-next)
+    -- the same of the column as it is lent, `part`
+    module _ (part : List ℕ) (lent : part ≡ slice (getD starts j 0) (getD starts (j + 1) 0) rows) where
+      pub part-reach : code.reached parent (j + 1) j part (set stamps j (j + 1)) .found ≡ reach links n (treeParent links n) j
+      part-reach = ap (λ (l : List ℕ). code.reached parent (j + 1) j l (set stamps j (j + 1)) .found) lent ∙ next-reach
 
-      ends-found : drop top out′ ≡ reach links n (treeParent links n) j
-      ends-found =
-          ap (drop top) listed ∙ drop-at (take top out) (code.reached parent (j + 1) j part (set stamps j (j + 1)) .found) top (length-take-le top out (omega (arith, ends-within)))
-          ∙ ap (λ (l : List ℕ). code.reached parent (j + 1) j l (set stamps j (j + 1)) .found) lent ∙ next-reach
+      pub part-below : (stamps′ : List ℕ) → stamps′ ≡ code.reached parent (j + 1) j part (set stamps j (j + 1)) .stamps → Below (j + 1) stamps′
+      part-below stamps′ stamped = subst (Below (j + 1)) (sym (stamped ∙ ap (λ (l : List ℕ). code.reached parent (j + 1) j l (set stamps j (j + 1)) .stamps) lent)) next-below
 
-      ends-below : Below (j + 1) stamps′
-      ends-below = subst (Below (j + 1)) (sym (stamped ∙ ap (λ (l : List ℕ). code.reached parent (j + 1) j l (set stamps j (j + 1)) .stamps) lent)) next-below
+      -- what the scan says, in the theory's terms
+      module _ (out out′ stamps′ : List ℕ) (top : ℕ) (places : length out ≡ n)
+          (filled : top + length (code.reached parent (j + 1) j part (set stamps j (j + 1)) .found) ≡ length parent)
+          (listed : out′ ≡ take top out ++ code.reached parent (j + 1) j part (set stamps j (j + 1)) .found)
+          (stamped : stamps′ ≡ code.reached parent (j + 1) j part (set stamps j (j + 1)) .stamps) where
+        ends-within : top ≤ n
+        ends-within = omega (arith, size parent liu j h (j + 1) (j + 1) (le-refl (j + 1)) stamps count low-next fresh-next)
 
-      pub walk-ends : ((top ≤ n) × (drop top out′ ≡ reach links n (treeParent links n) j)) × Below (j + 1) stamps′
-      walk-ends = ((ends-within, ends-found), ends-below)
+        ends-found : drop top out′ ≡ reach links n (treeParent links n) j
+        ends-found =
+            ap (drop top) listed ∙ drop-at (take top out) (code.reached parent (j + 1) j part (set stamps j (j + 1)) .found) top (length-take-le top out (omega (arith, ends-within)))
+            ∙ part-reach
+
+        pub walk-ends : ((top ≤ n) × (drop top out′ ≡ reach links n (treeParent links n) j)) × Below (j + 1) stamps′
+        walk-ends = ((ends-within, ends-found), part-below stamps′ stamped)

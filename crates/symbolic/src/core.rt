@@ -1,7 +1,8 @@
 // The plan of L: how many rows each column has, where each begins, and the rows themselves, from an upper pattern and Liu's table of parents.
 // For j ascending the columns that reach j are walked and j goes to the end of each: every column comes out ascending, with no sorting.
+// Both passes do their work on a column where the climb comes upon it, so neither makes a list of what it found.
 ghost use mathlib.Core.Path.{_≡_};
-ghost use mathlib.Core.List.{_++_};
+ghost use mathlib.Core.List.{_++_, reverse};
 ghost use Prim.Native.Nat.{ℕ, _+_, _*_, _≤_, _<_};
 ghost use lib.Dec.{T};
 ghost use lib.ListN.{length, getD, drop};
@@ -9,8 +10,10 @@ ghost use Rattle.graph.specs.Sets.{elem, between, gather, sum};
 ghost use Rattle.graph.specs.Count.{productsOf};
 ghost use Rattle.graph.specs.Symbolic as L;
 ghost use Rattle.elimination_tree.specs.Tree.{linkedUp};
-ghost use Rattle.buckets.specs.Buckets.{lengths, Laid};
-ghost use Rattle.symbolic.specs.Columns.{Tree, Below, Sized, found, columnsOf, area, numbersOf};
+ghost use Rattle.reach.specs.Reach.{Parents, reached};
+ghost use Rattle.buckets.specs.Buckets.{bumps, stores, Roomy, lengths, Laid};
+ghost use Rattle.symbolic.specs.Columns.{Tree, Below, Sized, found, columnsOf, numbersOf};
+use tables::core::NONE;
 use tables::core::wide;
 
 // The columns that reach column j, at the end of `out` from the returned place on. The mark is j + 1.
@@ -34,25 +37,47 @@ pub fn walk(
     reach::core::scan(parent, &rows[from..to], j, j + 1, stamp, out)
 }
 
-// The numbers of row j of L: the areas of its blocks in the columns listed.
-fn row_numbers(ks: &[u32], sizes: &[u32], j: usize) -> usize
-    requires { ⌜ Sized (length (now sizes)) (now sizes) × (j < length (now sizes)) × (length (now ks) ≤ 4096) ⌝ }
-    requires { ⌜ ((k : ℕ) → T (elem k (now ks)) → k < length (now sizes)) ⌝ }
-    ensures { λ r. ⌜ (r ≡ sum (now (ks .entry)) (λ k. area (now (sizes .entry)) j k)) × (r ≤ 256 * length (now (ks .entry))) ⌝ }
+// The scan of `reach::core::scan`, but nothing is listed: each block is counted as it is found, and the sum of their dimensions is returned.
+fn count_climbs(
+    parent: &[u32],
+    rows: &[u32],
+    sizes: &[u32],
+    j: u32,
+    mark: u32,
+    stamp: &mut [u32],
+    count: &mut [u32],
+) -> usize
+    requires { ⌜ Parents (now parent) × (j < length (now parent)) × (length (now parent) ≤ 4096) × Sized (length (now parent)) (now sizes) ⌝ }
+    requires { ⌜ (length (now stamp) ≡ length (now parent)) × (length (now count) ≡ length (now parent)) ⌝ }
+    requires { ⌜ Roomy (reached (now parent) mark j (now rows) (now stamp) .found) (now count) 4294967295 ⌝ }
+    ensures { λ r. ⌜ (r ≡ sum (reverse (reached (now (parent .entry)) mark j (now (rows .entry)) (now (stamp .entry)) .found)) (λ k. getD (now (sizes .entry)) k 0)) × (r ≤ 65536) ⌝ }
+    ensures { λ _. ⌜ now (count .exit) ≡ bumps (reverse (reached (now (parent .entry)) mark j (now (rows .entry)) (now (stamp .entry)) .found)) (now (count .entry)) ⌝ }
+    ensures { λ _. ⌜ now (stamp .exit) ≡ reached (now (parent .entry)) mark j (now (rows .entry)) (now (stamp .entry)) .stamps ⌝ }
 {
-    let d = wide(sizes[j]);
-    let mut numbers: usize = 0;
-    let mut t: usize = 0;
-    while t < ks.len() {
-        let k = wide(ks[t]);
-        numbers += d * wide(sizes[k]);
-        t += 1;
+    let mut total: usize = 0;
+    let mut q = 0;
+    while q < rows.len() {
+        let i = rows[q];
+        if i < j {
+            let mut at = i as usize;
+            'climb: while stamp[at] != mark {
+                count[at] += 1;
+                total += sizes[at] as usize;
+                stamp[at] = mark;
+                let up = parent[at];
+                if up == NONE {
+                    break 'climb;
+                }
+                at = up as usize;
+            }
+        }
+        q += 1;
     }
-    numbers
+    total
 }
 
 // The counting pass: how many rows each column of L has, and how many numbers L has, which is returned. `sizes` has the blocks'
-// dimensions. `stamp` and `out` are scratch.
+// dimensions. `stamp` is scratch; nothing is put into `out`.
 pub fn counts(
     starts: &[u32],
     rows: &[u32],
@@ -73,15 +98,57 @@ pub fn counts(
     let mut numbers: usize = 0;
     let mut j: usize = 0;
     while j < n {
-        let top = walk(starts, rows, parent, j as u32, stamp, out);
-        buckets::core::tally(&out[top..], count);
-        numbers += row_numbers(&out[top..], sizes, j);
+        let from = starts[j] as usize;
+        let to = starts[j + 1] as usize;
+        let mark = j as u32 + 1;
+        stamp[j] = mark;
+        let added = count_climbs(parent, &rows[from..to], sizes, j as u32, mark, stamp, count);
+        numbers += sizes[j] as usize * added;
         j += 1;
     }
     numbers
 }
 
-// The filling pass: the rows of L, column after column, into exactly the places that `l_starts` gives. `stamp`, `out` and `next` are scratch.
+// The scan of `reach::core::scan`, but nothing is listed: j goes to the end of the bucket of each block as it is found.
+fn store_climbs(
+    parent: &[u32],
+    rows: &[u32],
+    j: u32,
+    mark: u32,
+    stamp: &mut [u32],
+    next: &mut [u32],
+    table: &mut [u32],
+)
+    requires { ⌜ Parents (now parent) × (j < length (now parent)) × (length (now table) < 4294967296) ⌝ }
+    requires { ⌜ (length (now stamp) ≡ length (now parent)) × (length (now next) ≡ length (now parent)) ⌝ }
+    requires { ⌜ Roomy (reached (now parent) mark j (now rows) (now stamp) .found) (now next) (length (now table)) ⌝ }
+    ensures { λ _. ⌜ now (next .exit) ≡ bumps (reverse (reached (now (parent .entry)) mark j (now (rows .entry)) (now (stamp .entry)) .found)) (now (next .entry)) ⌝ }
+    ensures { λ _. ⌜ now (table .exit) ≡ stores j (reverse (reached (now (parent .entry)) mark j (now (rows .entry)) (now (stamp .entry)) .found)) (now (next .entry)) (now (table .entry)) ⌝ }
+    ensures { λ _. ⌜ now (stamp .exit) ≡ reached (now (parent .entry)) mark j (now (rows .entry)) (now (stamp .entry)) .stamps ⌝ }
+{
+    let mut q = 0;
+    while q < rows.len() {
+        let i = rows[q];
+        if i < j {
+            let mut at = i as usize;
+            'climb: while stamp[at] != mark {
+                let free = next[at];
+                table[free as usize] = j;
+                next[at] = free + 1;
+                stamp[at] = mark;
+                let up = parent[at];
+                if up == NONE {
+                    break 'climb;
+                }
+                at = up as usize;
+            }
+        }
+        q += 1;
+    }
+}
+
+// The filling pass: the rows of L, column after column, into exactly the places that `l_starts` gives. `stamp` and `next` are scratch;
+// nothing is put into `out`.
 pub fn fill(
     starts: &[u32],
     rows: &[u32],
@@ -102,8 +169,11 @@ pub fn fill(
     let n = parent.len();
     let mut j = 0;
     while j < n {
-        let top = walk(starts, rows, parent, j as u32, stamp, out);
-        buckets::core::append_all(&out[top..], j as u32, next, l_rows);
+        let from = starts[j] as usize;
+        let to = starts[j + 1] as usize;
+        let mark = j as u32 + 1;
+        stamp[j] = mark;
+        store_climbs(parent, &rows[from..to], j as u32, mark, stamp, next, l_rows);
         j += 1;
     }
 }

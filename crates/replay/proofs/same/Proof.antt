@@ -1,7 +1,8 @@
 -- `replay::same` meets its contract: a NaN alone differs from itself, and other floats have bits of their own.
 -- Assumes nothing.
 use borrow.Author.Needs.{needs}
-use Rattle.replay.proofs.Laws.{no-nan, same-nan, one-nan, same-bits}
+use Rattle.bits.proofs.Laws.{no-nan}
+use Rattle.replay.proofs.Laws.{same-nan, one-nan, same-bits}
 use Rattle.replay.proofs.same.Statement.{statement}
 use Rattle.replay.proofs.same.Tie as tie
 

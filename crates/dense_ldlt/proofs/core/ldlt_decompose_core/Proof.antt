@@ -34,7 +34,7 @@ stops-early : tie.Need-returns Inv-loop μ-loop
 unfolding ldlt ldltRow
 stops-early c =
     let tests = c .before .before .before .before .before .before .before .before in
-    let divides = tests .before .before .before .before .before .before .before in
+    let divides = tests .before .before .before .before in
     let rows = divides .before .before .before .before .before in
     let x = rows .before .before .before .args in
     let infinite = sym (tests .before .is-finite .ensures) ∙ not-true _ (tests .if1 .taken) in
@@ -43,19 +43,14 @@ stops-early c =
     (ap (finish (x .n) (x .tol))
     (steps-stuck _ _ (x .n) _ _
     (steps-next _ _ _ _ _ (rows .loop .inv .5)
-    (stops _ _ _ _ _ _ _ _ (rw (rows .loop .inv .4)) (divides .divide-row .ensures) (tests .before .before .pivot .ensures) infinite))
+    (stops _ _ _ _ _ _ _ _ (rw (rows .loop .inv .4)) (divides .divide-row .ensures .0) (divides .divide-row .ensures .1) infinite))
     (λ k. refl) (omega arith)))
-
-add-j : tie.Need-add-j Inv-loop μ-loop
-add-j c =
-    let row = c .before .before .before .before .before .before .before .before .before .before .before .before .before .before .before .before .before in
-    omega (arith, row .loop-test .taken, row .before .before .before .before .fits .n)
 
 loop-again : tie.Need-loop-again Inv-loop μ-loop
 loop-again c =
     let counts = c .before .before .before .before in
     let tests = counts .before .before in
-    let divides = tests .before .before .before .before .before .before .before in
+    let divides = tests .before .before .before .before in
     let rows = divides .before .before .before .before .before in
     let finite = sym (tests .before .is-finite .ensures) ∙ not-false _ (tests .if1 .left) in
     let before = rows .loop .d in
@@ -69,7 +64,7 @@ loop-again c =
       rw more
           (steps-next _ _ _ _ _ (rows .loop .inv .5)
           (rw (c .before .before .store .ensures, counts .before .kept-of .ensures)
-          (goes-on _ _ _ _ _ _ _ _ (rw (rows .loop .inv .4)) (divides .divide-row .ensures) (tests .before .before .pivot .ensures) finite))),
+          (goes-on _ _ _ _ _ _ _ _ (rw (rows .loop .inv .4)) (divides .divide-row .ensures .0) (divides .divide-row .ensures .1) finite))),
     )
 
 all-rows : tie.Need-returns-2 Inv-loop μ-loop
@@ -94,7 +89,6 @@ ldlt-decompose-core-spec =
     (λ c κs. search kernels)
     (λ c κs. search kernels)
     (λ c κs. search kernels)
-    (λ c κs. search kernels)
     (λ c. search kernels)
     (λ c. search kernels)
     stops-early
@@ -103,7 +97,7 @@ ldlt-decompose-core-spec =
     (λ c. search kernels)
     (λ c κs. search kernels)
     (λ c κs. search kernels)
-    add-j
+    (λ c. search kernels)
     (λ c. search kernels)
     loop-again
     (λ c κs. search kernels)

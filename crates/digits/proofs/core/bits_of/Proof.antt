@@ -1,7 +1,7 @@
 -- `digits::core::bits_of` meets its contract: a NaN alone differs from itself. Assumes nothing.
 use mathlib.Core.Path.{_∙_}
 use Rattle.scalar.proofs.Floats.{nan-test}
-use Rattle.replay.proofs.Laws.{no-nan}
+use Rattle.bits.proofs.Laws.{no-nan}
 use Rattle.digits.specs.Digits.{bitsOf}
 use Rattle.digits.proofs.core.bits_of.Statement.{statement}
 use Rattle.digits.proofs.core.bits_of.Tie as tie

@@ -1,7 +1,7 @@
 -- `factors::call::read` is safe: each table is a part of the room for it. Assumes nothing.
 use native.Mathlib.Omega.{arith}
 use borrow.Author.Needs.{needs}
-use Rattle.factors.proofs.Laws.{counted}
+use Rattle.word_list.proofs.Laws.{counted}
 use Rattle.factors.proofs.call.read.Statement.{statement}
 use Rattle.factors.proofs.call.read.Tie as tie
 

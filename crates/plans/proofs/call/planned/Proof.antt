@@ -1,7 +1,7 @@
 -- `plans::call::planned` is safe: each table is a part of the room for it. Assumes nothing.
 use native.Mathlib.Omega.{arith}
 use borrow.Author.Needs.{needs}
-use Rattle.plans.proofs.Laws.{counted}
+use Rattle.word_list.proofs.Laws.{counted}
 use Rattle.plans.proofs.call.planned.Statement.{statement}
 use Rattle.plans.proofs.call.planned.Tie as tie
 

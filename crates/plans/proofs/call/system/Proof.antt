@@ -1,7 +1,7 @@
 -- `plans::call::system` is safe: each table is a part of the room for it. Assumes nothing.
 use native.Mathlib.Omega.{arith}
 use borrow.Author.Needs.{needs}
-use Rattle.plans.proofs.Laws.{counted}
+use Rattle.word_list.proofs.Laws.{counted}
 use Rattle.plans.proofs.call.system.Statement.{statement}
 use Rattle.plans.proofs.call.system.Tie as tie
 

@@ -5,10 +5,10 @@ use Rattle.plans.proofs.print.summary.Statement.{statement}
 use Rattle.plans.proofs.print.summary.Tie as tie
 
 abbrev Inv-loop : tie.InvT-loop
-Inv-loop cases right kind₀ t6 t7 t8 kind = kind ≤ 16
+Inv-loop cases right kind₀ kind = kind ≤ 15
 
 abbrev μ-loop : tie.MeasureT-loop
-μ-loop cases right kind₀ t6 t7 t8 kind = 16 - kind
+μ-loop cases right kind₀ kind = 15 - kind
 
 pub summary-spec : {M : Type 1} → statement M
 summary-spec =
@@ -28,12 +28,5 @@ summary-spec =
     (λ c. search needs)
     (λ c κs. search needs)
     (λ c κs. search needs)
-    (λ c. search needs)
     (λ c κs. search needs)
-    (λ c κs. search needs)
-    (λ c. search needs)
-    (λ c κs. search needs)
-    (λ c. search needs)
-    (λ c κs. search needs)
-    (λ c. search needs)
     (λ c. search needs))

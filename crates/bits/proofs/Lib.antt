@@ -1,0 +1,2 @@
+-- What belongs to no one function: which bits, and which floats, are a NaN.
+pub mod Laws
