@@ -14,7 +14,7 @@ KEPT = {
         "checks::check_plan", "analysis::core::permute", "elimination_tree::core::new_core", "symbolic::core::counts",
         "symbolic::core::fill", "scratch::core::clear_plan",
     ],
-    "factor_abi": [
+    "factor_cache_abi": [
         "checks::check_system", "analysis::core::analyze", "analysis::core::store", "factor_setup::core::write_tables",
         "reach::core::scan", "load_column::core::load_column", "work_column::core::work_column", "row_products::core::apply_rows",
         "column_products::core::scaled_by_d", "tiled_product::core::sub_mat_mat_t_core", "tiled_multiply::core::multiply",

@@ -88,7 +88,8 @@ uint32_t beyqaloosh_factorize(const uint32_t *dims, size_t dims_len, const uint3
 /* The same factorization with one more buffer lent, cache: each block of L, times the unit factor of its column, is kept there as far as
    there is room, and the products take it from there. Its need is L's numbers, but no more than 16 times one more than the entries and
    numbers that are handed in (dims, starts, rows, values, perm and late together). It is buffer 21. Where 1 to 10 refuse, or 11 for a need
-   that is known without the plan, it is as it was; else it is zeros as far as it is needed. crates/factorize/src/lib.rt says more. */
+   that is known without the plan, it is as it was; else it is zeros as far as it is needed. crates/factorize_with_cache/src/lib.rt
+   says more. */
 uint32_t beyqaloosh_factorize_with_cache(const uint32_t *dims, size_t dims_len, const uint32_t *starts, size_t starts_len,
                                          const uint32_t *rows, size_t rows_len, const double *values, size_t values_len,
                                          const uint32_t *perm, size_t perm_len, const uint32_t *late, size_t late_len, double tol,

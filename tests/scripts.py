@@ -46,7 +46,7 @@ class Scripts(unittest.TestCase):
         return self.log.read_text().splitlines()
 
     def test_the_gate_wants_something_to_have_passed_and_nothing_to_have_failed(self):
-        self.copied(".ci/run")
+        self.copied(".ci/run", "tools/in_memory")
         self.written("tests/run", "#!/bin/sh\n")
         self.command("rt", '[ "$1" != ci ] || printf "some lines\\n$TALLY\\n"')
         for tally, passes in [
@@ -62,8 +62,10 @@ class Scripts(unittest.TestCase):
             self.assertEqual((status == 0, lines[-1] == tally), (passes, passes), tally)
 
     def test_the_tests_run_against_what_was_built(self):
-        self.copied("tests/run", "tools/build")
+        self.copied("tests/run", "tools/build", "tools/in_memory")
         self.written("crates/some_abi/src/lib.rt", "")
+        self.written("crates/used/src/lib.rt", "")
+        self.written("crates.txt", "used:\nsome_abi: used io\n")
         (self.folder / "rust").mkdir()
         for name in ("rt", "cargo", "python3", "ar"):
             self.command(name)
@@ -75,6 +77,12 @@ class Scripts(unittest.TestCase):
             self.assertEqual(named, {"rt", "ar", "cc", "cargo"} | ({"python3"} if script == "tests/run" else set()))
             for call in self.calls():
                 self.assertTrue(call.endswith(" BEYQALOOSH_LIB= CARGO_TARGET_DIR="), call)
+        # what an exporting crate uses comes before it; where either is not proved nothing is built
+        self.assertEqual([call.split()[1:3] for call in self.calls() if call.startswith("rt ")], [["check", "used"], ["staticlib", "some_abi"]])
+        for verb in ("check", "staticlib"):
+            self.command("rt", f'[ "$1" != {verb} ]')
+            status, _ = self.run_script("tools/build")
+            self.assertEqual((status, "ar" in {call.split()[0] for call in self.calls()}), (1, False), verb)
 
     def test_a_night_is_run_by_no_older_program_than_its_sources(self):
         self.copied("tools/night")

@@ -173,7 +173,7 @@ pub fn factorize(a: Tables, values: &[f64], tol: f64, lent: FactorLent) -> Resul
     factorize_by(a, values, tol, lent, None)
 }
 
-/// The same with a cache: `factorize::factorize_with_cache` of the proved library. A cache shorter than its need is refused by 11; else the
+/// The same with a cache: `factorize_with_cache::factorize_with_cache` of the proved library. A cache shorter than its need is refused by 11; else the
 /// answer and what is left in every other buffer are those of [`factorize`].
 #[rustfmt::skip]
 pub fn factorize_with_cache(

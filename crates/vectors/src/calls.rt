@@ -1,11 +1,11 @@
 // The library's functions by their ops. The sizes go in as the list gives them.
-use crate::answer::Told;
-use crate::answer::of_block;
-use crate::answer::of_dense;
-use crate::answer::of_shaped;
 use refusal::Shaped;
 use replay::count;
 use replay::float;
+use vector_answers::Told;
+use vector_answers::of_block;
+use vector_answers::of_dense;
+use vector_answers::of_shaped;
 
 // What a call is given beside its slices.
 pub struct Head {

@@ -1,5 +1,4 @@
 // One case of the list: read, laid out, replayed and judged.
-use crate::answer::matches;
 use crate::calls::call;
 use crate::calls::head_of;
 use libc::STDIN_FILENO;
@@ -7,6 +6,7 @@ use replay::count;
 use replay::fill;
 use replay::on;
 use replay::same_slice;
+use vector_answers::matches;
 ghost use mathlib.Core.Path.{_≡_};
 ghost use Prim.Native.Nat.{_≤_};
 ghost use lib.ListN.{length};

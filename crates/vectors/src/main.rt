@@ -1,6 +1,5 @@
 // Replays the oracle's list, on standard input, against the library: how many cases each function has, and how many come out
 // other than the list says.
-mod answer;
 mod calls;
 mod list;
 mod print;

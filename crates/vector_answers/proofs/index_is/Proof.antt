@@ -1,0 +1,12 @@
+-- `vector_answers::index_is` meets its contract: it compares where there are more than k. Assumes nothing.
+use mathlib.Core.Path.{sym, _∙_}
+use borrow.Author.Needs.{needs}
+use borrow.Author.Tests.{eqb-true}
+use Rattle.vector_answers.proofs.index_is.Statement.{statement}
+use Rattle.vector_answers.proofs.index_is.Tie as tie
+
+returns : tie.Need-returns
+returns c = λ h l. sym (c .count .ensures) ∙ eqb-true _ _ h
+
+pub index-is-spec : {M : Type 1} → statement M
+index-is-spec = tie.close (tie.spec (λ c κs. search needs) returns (λ c. search needs))
