@@ -178,6 +178,13 @@ pub fn beside<const N: usize>(mut each: [&mut dyn FnMut(); N]) -> [f64; N] {
     std::array::from_fn(|k| best[k])
 }
 
+/// What callgrind counts: one call, in a function of its own.
+#[unsafe(no_mangle)]
+#[inline(never)]
+pub fn counted(call: &mut dyn FnMut()) {
+    black_box(call)();
+}
+
 /// The same of so many calls by number. One that has run for so many nanoseconds in all takes part in no further round.
 pub fn turns(count: usize, at_most: f64, mut call: impl FnMut(usize)) -> Vec<f64> {
     let mut best = vec![f64::MAX; count];

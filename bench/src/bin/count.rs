@@ -1,5 +1,5 @@
-//! One call of the source's text or of the proved library, made in a function of its own, `counted`, so that callgrind can count what it
-//! executes: `count SIDE PART NIGHT`. SIDE and PART are one of
+//! One call of the source's text or of the proved library, made by `counted`, so that callgrind can count what it executes: `count SIDE PART
+//! NIGHT`. SIDE and PART are one of
 //!     rust plan|factor|solve
 //!     ours plan|factor|solve    the factorization with a cache
 //!     plain factor              the same without one
@@ -10,16 +10,10 @@
 //!     hubs BLOCKS               points that are near each other linked, with hubs, of mixed dimensions
 use bench::calls::{PlanLent, SolveLent, cache_needed, plan, solve_inplace};
 use bench::nights::{Draw, chain, grid, random};
-use bench::systems::{even, factored, hubs, matrix, ours, ours_with_cache, planned, source_plan, system};
+use bench::systems::{counted, even, factored, hubs, matrix, ours, ours_with_cache, planned, source_plan, system};
 use nalgebra::DVector;
 use sophus_solver::{IsFactor, ldlt::block_sparse_ldlt};
 use std::hint::black_box;
-
-#[unsafe(no_mangle)]
-#[inline(never)]
-pub fn counted(call: &mut dyn FnMut()) {
-    black_box(call)();
-}
 
 fn main() {
     let words: Vec<String> = std::env::args().skip(1).collect();
