@@ -127,7 +127,7 @@ fn of_result(k: LdltResult) -> Told
 
 // Whether the answer at `at` is t.
 pub fn matches(w: &[u8], at: usize, t: Told) -> bool
-    ensures { λ r. ⌜ (r ≡ true → Listed (now (w .entry)) at t) ⌝ }
+    ensures { λ r. ⌜ (r ≡ true → Listed (now (w .entry)) at t) × (Listed (now (w .entry)) at t → r ≡ true) ⌝ }
 {
     if count(w, at) != t.number {
         return false;
@@ -150,7 +150,7 @@ pub fn matches(w: &[u8], at: usize, t: Told) -> bool
 
 // Whether index k, where there are more than k, stands at `at`.
 fn index_is(w: &[u8], at: usize, indices: usize, k: usize, index: usize) -> bool
-    ensures { λ r. ⌜ (r ≡ true → k < indices → wordAt (now (w .entry)) at ≡ index) ⌝ }
+    ensures { λ r. ⌜ (r ≡ true → k < indices → wordAt (now (w .entry)) at ≡ index) × ((k < indices → wordAt (now (w .entry)) at ≡ index) → r ≡ true) ⌝ }
 {
     if k < indices {
         return count(w, at) == index;
@@ -160,7 +160,7 @@ fn index_is(w: &[u8], at: usize, indices: usize, k: usize, index: usize) -> bool
 
 // Whether the float, where there is one, stands at `at`.
 fn float_is(w: &[u8], at: usize, floats: usize, x: f64) -> bool
-    ensures { λ r. ⌜ (r ≡ true → 0 < floats → wordFloat (now (w .entry)) at ≡ x) ⌝ }
+    ensures { λ r. ⌜ (r ≡ true → 0 < floats → wordFloat (now (w .entry)) at ≡ x) × ((0 < floats → wordFloat (now (w .entry)) at ≡ x) → r ≡ true) ⌝ }
 {
     if 0 < floats {
         return same(float(w, at), x);
