@@ -20,6 +20,8 @@ FIELD = re.compile(r"^\s+pub ([^\s:(){}]+) :(?: |$)")
 DECLARED = re.compile(r"^\s*(?:abbrev |unfoldable |opaque |pub )*([^\s:(){}]+) :(?: |$)")
 # names that port.py turned where the library has them, but not inside a longer name
 KEPT = {"getD": "get_or"}
+# lemmas that would fall together with a definition
+LEMMAS = {"column-of", "column-right", "tree-parent"}
 # `core` is the name of a library now: the modules of that name are `cores`
 CORES = [
     (re.compile(r"(?<![\w.:])core(?=::)"), "cores"),
@@ -39,7 +41,7 @@ def snake(part):
 
 
 def turned(word, dashed):
-    if word in dashed:
+    if word in dashed and word not in LEMMAS:
         word = word.replace("-", "_")
     return "-".join(snake(p) if p[:1].islower() else p for p in word.split("-"))
 

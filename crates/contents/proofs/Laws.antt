@@ -4,7 +4,7 @@
 --     sorted_of                                 columns that pass do not fall and are below n
 --     length-starts, starts-at, starts-filled   the starts: how many, the entries, and a list with those entries
 --     starts-ordered, starts-done               the starts of columns below n pass 3 of document 01's tables
---     column_of                                 the column of a place, read by the starts, is the entry's own
+--     column-of                                 the column of a place, read by the starts, is the entry's own
 --     start-from, area-is, area_small, offset-hits, offset-misses   what the loops that fill the starts and search the offsets go by
 -- Assumes nothing.
 use Rattle.std.specs.Prelude.{◌≡◌, ℕ, zero, suc, ◌+◌, ◌-◌, ◌*◌, ◌<◌, ◌≤◌, Bool, true, false, cond, ◌||◌, eqb, ltb, leb, ◌⊎◌, List, map, length, get_or}
@@ -181,8 +181,8 @@ module _ (columns : List ℕ) (n : ℕ) where
         }
 
     -- the column of a place is the entry's own
-    pub column_of : (p : ℕ) → p < length columns → column_of (starts_from columns n) n p ≡ at columns p
-    column_of p l =
+    pub column-of : (p : ℕ) → p < length columns → column_of (starts_from columns n) n p ≡ at columns p
+    column-of p l =
         let j = at columns p in
         let b : j < n = s.below p l in
         column-is starts-ordered j p b (omega (arith, starts-at j (omega arith), start-by j p (omega arith))) (omega (arith, starts-at (j + 1) (omega arith), start-past (j + 1) p l (λ q h. omega (arith, s.rising q p h l))))
@@ -225,7 +225,7 @@ start-from columns j from l each = sym (first_past (before columns j) 0 from (le
 module _ {dims rows columns offsets : List ℕ} (t : Placed dims rows columns offsets) (p : ℕ) (l : p < length columns) where
   -- the area of an entry's block
   pub area-is : area_at dims (starts_from columns (length dims)) rows p ≡ block_area dims rows (at dims (at columns p)) p
-  area-is = ap (λ (j : ℕ). block_area dims rows (at dims j) p) (column_of columns (length dims) t.sorted p l)
+  area-is = ap (λ (j : ℕ). block_area dims rows (at dims j) p) (column-of columns (length dims) t.sorted p l)
 
   pub area_small : area_at dims (starts_from columns (length dims)) rows p ≤ 256
   area_small = area-le dims rows t.sizes _ p (t.sizes.small (column_of (starts_from columns (length dims)) (length dims) p))

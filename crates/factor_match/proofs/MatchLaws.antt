@@ -109,8 +109,8 @@ module _ (linked : ℕ → ℕ → Bool) (n : ℕ) (parents : List ℕ) (listed 
       all_listed right l =
           lacks-none (rows linked n k) (listed k) (λ i m. let s = (rows_right linked n symm k h).sound i m in low.before k i l s.0 s.1 (ruled-given linked n symm listed past k h right i m))
 
-    column_right : (k : ℕ) → k < lack → k < stray → k < off → column_right linked n parents listed k ≡ true
-    column_right k a b c =
+    column-right : (k : ℕ) → k < lack → k < stray → k < off → column_right linked n parents listed k ≡ true
+    column-right k a b c =
         let h : k < n = omega (arith, low.within) in
         let e = rows-below (suc k) a b k (omega arith) in
         is_right linked n parents listed k (lacks-same (rows linked n k) (listed k) (sym e)) (lacks-same (listed k) (rows linked n k) e) (headed-all k c h ∙ tree-first k h e)
@@ -121,7 +121,7 @@ module _ (linked : ℕ → ℕ → Bool) (n : ℕ) (parents : List ℕ) (listed 
         let right : (c : ℕ) → c < lack → listed c ≡ rows linked n c = rows-below lack (omega arith) a in
         let m = given-ruled linked n symm listed past lack h right q.0 q.1 q.2 q.3 in
         let w = is-missing linked n parents listed lack (lacks-some (rows linked n lack) (listed lack) q.0 m q.4) in
-        w.1 ∙ wrong-at linked n parents listed lack h (λ i l. column_right i l (omega arith) (omega arith)) w.0
+        w.1 ∙ wrong-at linked n parents listed lack h (λ i l. column-right i l (omega arith) (omega arith)) w.0
 
     pub answer-extra : stray < lack → stray ≤ off → kind.Extra stray ≡ first_wrong linked n parents listed
     answer-extra a b =
@@ -130,17 +130,17 @@ module _ (linked : ℕ → ℕ → Bool) (n : ℕ) (parents : List ℕ) (listed 
         let right : (c : ℕ) → c < stray → listed c ≡ rows linked n c = rows-below stray (omega arith) (omega arith) in
         let none = all_listed stray h right a in
         let w = is-extra linked n parents listed stray none (lacks-some (listed stray) (rows linked n stray) q.0 q.1 (λ m. q.2 (ruled-given linked n symm listed past stray h right q.0 m))) in
-        w.1 ∙ wrong-at linked n parents listed stray h (λ i l. column_right i (omega arith) l (omega arith)) w.0
+        w.1 ∙ wrong-at linked n parents listed stray h (λ i l. column-right i (omega arith) l (omega arith)) w.0
 
     pub answer-parent : off < lack → off < stray → kind.Parent off ≡ first_wrong linked n parents listed
     answer-parent a b =
         let h : off < n = omega (arith, low.within) in
         let e = rows-below (suc off) a b off (omega arith) in
         let w = is-off linked n parents listed off (lacks-same (rows linked n off) (listed off) (sym e)) (lacks-same (listed off) (rows linked n off) e) (λ z. off-here h (z ∙ sym (tree-first off h e))) in
-        w.1 ∙ wrong-at linked n parents listed off h (λ i l. column_right i (omega arith) (omega arith) l) w.0
+        w.1 ∙ wrong-at linked n parents listed off h (λ i l. column-right i (omega arith) (omega arith) l) w.0
 
     pub answer-same : n ≤ lack → n ≤ stray → n ≤ off → kind.Same ≡ first_wrong linked n parents listed
-    answer-same a b c = wrong-none linked n parents listed (λ i l. column_right i (omega arith) (omega arith) (omega arith))
+    answer-same a b c = wrong-none linked n parents listed (λ i l. column-right i (omega arith) (omega arith) (omega arith))
 
 -- ---- the answers, of the tables
 

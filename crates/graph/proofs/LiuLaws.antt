@@ -362,9 +362,9 @@ module _ (linked : ℕ → ℕ → Bool) (n : ℕ) (parent : ℕ → Option ℕ)
       forest_ready (suc j) h = column_ready j (forest linked n j) h (forest_ready j (omega arith))
 
       -- T4: the table that the algorithm leaves is that of the parents
-      pub tree_parent : (k : ℕ) → k < n → tree_parent linked n k ≡ parent k
+      pub tree-parent : (k : ℕ) → k < n → tree_parent linked n k ≡ parent k
       unfolding tree_parent
-      tree_parent k h = go (parent_of (forest linked n n) k) refl (parent k) refl (least k h)
+      tree-parent k h = go (parent_of (forest linked n n) k) refl (parent k) refl (least k h)
         where
           r : Ready n (forest linked n n)
           r = forest_ready n (omega arith)

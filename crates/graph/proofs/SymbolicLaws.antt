@@ -57,9 +57,9 @@ module _ (linked : ℕ → ℕ → Bool) (n : ℕ) where
 
   module _ (symm : (a b : ℕ) → T (linked a b) → T (linked b a)) where
     -- one step of the elimination: where the columns before j are right, column j is
-    pub column_right : (cols : List (List ℕ)) (j : ℕ) → j < n → ((k : ℕ) → k < j → IsColumn k (get_or cols k [])) → IsColumn j (column linked n cols j)
+    pub column-right : (cols : List (List ℕ)) (j : ℕ) → j < n → ((k : ℕ) → k < j → IsColumn k (get_or cols k [])) → IsColumn j (column linked n cols j)
     unfolding column
-    column_right cols j lt right =
+    column-right cols j lt right =
         record {
           ascending = filter-inc test (between (suc j) n) (between-inc (suc j) n);
           sound = λ i m.
@@ -95,7 +95,7 @@ module _ (linked : ℕ → ℕ → Bool) (n : ℕ) where
         go ih (no l') =
             let e : j ≡ k = omega arith in
             subst (λ (x : ℕ). IsColumn x (column linked n (columns linked n x) x)) e
-            (column_right (columns linked n j) j (omega arith) (λ m b. subst (λ (l : List ℕ). IsColumn m l) (sym (columns_at j m b)) (ih m b)))
+            (column-right (columns linked n j) j (omega arith) (λ m b. subst (λ (l : List ℕ). IsColumn m l) (sym (columns_at j m b)) (ih m b)))
 
     pub rows_right : (k : ℕ) → k < n → IsColumn k (rows linked n k)
     unfolding rows

@@ -12,7 +12,7 @@ use Rattle.graph.specs.Liu.{tree_parent}
 use Rattle.graph.proofs.SetLaws.{inc-ext}
 use Rattle.graph.proofs.ReachLaws.{reach_same}
 use Rattle.graph.proofs.SymbolicLaws.{IsColumn, parent_least}
-use Rattle.graph.proofs.LiuLaws.{tree_parent}
+use Rattle.graph.proofs.LiuLaws.{tree-parent}
 
 module _ (linked : ℕ → ℕ → Bool) (n : ℕ) (symm : (a b : ℕ) → T (linked a b) → T (linked b a)) where
   -- a column is fixed by the fill rule
@@ -22,7 +22,7 @@ module _ (linked : ℕ → ℕ → Bool) (n : ℕ) (symm : (a b : ℕ) → T (li
 
   -- Liu's algorithm gives the first rows of the columns
   pub tree-rows : (k : ℕ) → k < n → tree_parent linked n k ≡ first (rows linked n k)
-  tree-rows k h = tree_parent linked n (λ k. first (rows linked n k)) (parent_least linked n symm) symm k h
+  tree-rows k h = tree-parent linked n (λ k. first (rows linked n k)) (parent_least linked n symm) symm k h
 
   pub tree-least : (k : ℕ) → k < n → Least linked n k (tree_parent linked n k)
   tree-least k h = subst (λ (o : Option ℕ). Least linked n k o) (sym (tree-rows k h)) (parent_least linked n symm k h)
