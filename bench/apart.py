@@ -5,26 +5,30 @@ import re
 import shutil
 import subprocess
 import sys
+import tempfile
 
 import beside
+
+sys.path.append(str(beside.REPOSITORY / "tools"))
+import archive as archives  # noqa: E402
 
 # the functions that are kept apart, by the archive that has them
 KEPT = {
     "plan_abi": [
-        "checks::check_plan", "analysis::core::permute", "elimination_tree::core::new_core", "symbolic::core::counts",
-        "fill_rows::core::fill", "scratch::core::clear_plan",
+        "checks::check_plan", "analysis::cores::permute", "elimination_tree::cores::new_core", "symbolic::cores::counts",
+        "fill_rows::cores::fill", "scratch::cores::clear_plan",
     ],
     "factor_cache_abi": [
-        "checks::check_system", "analysis::core::analyze", "analysis::core::store", "factor_setup::core::write_tables",
-        "reach::core::scan", "load_column::core::load_column", "work_column::core::work_column", "row_products::core::apply_rows",
-        "column_products::core::scaled_by_d", "tiled_product::core::sub_mat_mat_t_core", "tiled_multiply::core::multiply",
-        "block_diag_ldlt::core::decompose_core", "tiled_right::core::ldlt_right_matsolve_tiled", "finish_column::core::finish_column",
-        "keep_column::core::keep_column", "factor_columns::core::factor_columns", "scratch::core::clear_factor",
+        "checks::check_system", "analysis::cores::analyze", "analysis::cores::store", "factor_setup::cores::write_tables",
+        "reach::cores::scan", "load_column::cores::load_column", "work_column::cores::work_column", "row_products::cores::apply_rows",
+        "column_products::cores::scaled_by_d", "tiled_product::cores::sub_mat_mat_t_core", "tiled_multiply::cores::multiply",
+        "block_diag_ldlt::cores::decompose_core", "tiled_right::cores::ldlt_right_matsolve_tiled", "finish_column::cores::finish_column",
+        "keep_column::cores::keep_column", "factor_columns::cores::factor_columns", "scratch::cores::clear_factor",
     ],
     "solve_abi": [
-        "solve_checks::check_solve", "factor_order::core::area_under", "factor_order::core::order_is", "factor_order::core::offsets_are",
-        "factor_match::core::first_wrong", "solve_core::core::solve_tables", "right_side::core::permute", "right_side::core::unpermute",
-        "forward::core::forward", "block_solves::core::solve_blocks", "backward::core::backward",
+        "solve_checks::check_solve", "factor_order::cores::area_under", "factor_order::cores::order_is", "factor_order::cores::offsets_are",
+        "factor_match::cores::first_wrong", "solve_core::cores::solve_tables", "right_side::cores::permute", "right_side::cores::unpermute",
+        "forward::cores::forward", "block_solves::cores::solve_blocks", "backward::cores::backward",
     ],
 }
 
@@ -47,9 +51,9 @@ PARTS = {
         "checks and plan": ["checks", "tables", "columns", "analysis", "symbolic", "fill_rows", "pattern", "elimination_tree", "factor_setup", "buckets", "order"],
     },
     "solve": {
-        "forward": ["forward", "tiled_vector::core::sub_rows"],
+        "forward": ["forward", "tiled_vector::cores::sub_rows"],
         "blocks": ["block_solves", "dense_solve"],
-        "backward": ["backward", "tiled_vector::core::sub_columns"],
+        "backward": ["backward", "tiled_vector::cores::sub_columns"],
         "checks of the tables": ["solve_checks", "tables", "columns"],
         "the factor held against its system": ["factor_match", "match_rows", "factor_order"],
         "order of the scalars": ["solve_core", "right_side", "scalars"],
@@ -76,38 +80,25 @@ os.execv(clang, [clang] + words)
 """
 
 
-def dependencies(crate):
-    """What crates.txt lists for a crate."""
-    found = re.search(rf"^{crate}:([^#\n]*)", (beside.REPOSITORY / "crates.txt").read_text(), re.MULTILINE)
-    return found[1].split()
-
-
 def archive(crate, out):
-    """The archive of an exported crate, its parts apart, as `rt staticlib` would make it."""
-    kit = pathlib.Path(subprocess.run(["rt", "doc"], check=True, capture_output=True, text=True).stdout.strip()).parents[1]
-    own = kit / "on" / "x86_64"
-    tools = out / f"toolchain_{crate}"
-    shutil.rmtree(tools, ignore_errors=True)
-    (tools / "bin").mkdir(parents=True)
-    for part in (own / "toolchain").iterdir():
-        if part.name != "bin":
-            (tools / part.name).symlink_to(part)
-    for tool in (own / "toolchain" / "bin").iterdir():
-        if tool.name != "clang":
-            (tools / "bin" / tool.name).symlink_to(tool)
-    clang = tools / "bin" / "clang"
-    clang.write_text(CLANG.format(clang=str(own / "toolchain" / "bin" / "clang"), kept=KEPT[crate]))
-    clang.chmod(0o755)
-    built = beside.REPOSITORY / "target" / "rlib"
-    words = ["--crate-name", crate, beside.REPOSITORY / "crates" / crate / "src" / "lib.rt", "--extern", f"std={own}/rlib/std.rlib"]
-    for name in dependencies(crate):
-        words += ["--extern", f"{name}={built}/{name}.rlib"]
-    words += ["-L", f"dependency={built}", "-L", f"dependency={own}/rlib", "--antt-project", kit / "logic" / "antt-project.json"]
-    words += ["--logic-built", own / "logic-built", "--toolchain", tools, "--crate-type", "staticlib", "-o", out / f"lib{crate}.a"]
-    made = subprocess.run([str(w) for w in [own / "bin" / "rattle", "build"] + words], capture_output=True, text=True)
-    if made.returncode != 0:
-        sys.exit(f"bench/run: {crate} could not be compiled: {made.stdout[-800:]}{made.stderr[-800:]}")
-    return out / f"lib{crate}.a"
+    """The archive of an exporting crate, its parts apart, as `rt lib` would make it."""
+    made = out / f"lib{crate}.a"
+    made.unlink(missing_ok=True)
+    # links stand in no folder of the repository: rt ci refuses them
+    with tempfile.TemporaryDirectory() as kept:
+        own, tools = archives.kit() / "toolchain", pathlib.Path(kept)
+        (tools / "bin").mkdir()
+        for part in [*own.iterdir(), *(own / "bin").iterdir()]:
+            if part.name not in ("bin", "clang"):
+                (tools / part.relative_to(own)).symlink_to(part)
+        clang = tools / "bin" / "clang"
+        clang.write_text(CLANG.format(clang=str(own / "bin" / "clang"), kept=KEPT[crate]))
+        clang.chmod(0o755)
+        words = archives.command(crate, made, tools)
+        ran = subprocess.run(words, cwd=archives.ROOT / "crates" / crate, stdin=subprocess.DEVNULL, capture_output=True, text=True)
+    if ran.returncode != 0:
+        sys.exit(f"bench/run: {crate} could not be compiled: {ran.stdout[-800:]}{ran.stderr[-800:]}")
+    return made
 
 
 def program(out):

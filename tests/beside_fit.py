@@ -62,7 +62,7 @@ def main():
     subprocess.run([REPOSITORY / "tools" / "night"], stdin=subprocess.DEVNULL, stdout=subprocess.DEVNULL, check=True)
     for seed in range(NIGHTS):
         made = sheets.parse(drawn(seed))
-        fit = subprocess.run([REPOSITORY / "target" / "bin" / "fit"], input=sheets.to_bytes(made), stdout=subprocess.PIPE, check=True)
+        fit = subprocess.run([REPOSITORY / "crates" / "fit" / "out" / "fit"], input=sheets.to_bytes(made), stdout=subprocess.PIPE, check=True)
         theirs = fit.stdout.decode().splitlines()
         if ours(made) != theirs:
             sys.exit(f"night {seed}: the face says\n{ours(made)}\nand fit\n{theirs}")

@@ -12,7 +12,7 @@ ghost use Rattle.buckets.specs.Buckets.{lengths};
 ghost use Rattle.analysis.specs.Plan.{stored_of, starts_of, rows_of, Analyzed, Ready};
 
 // What L has: blocks below the diagonal, numbers in them, and the block products that make it.
-#[derive(Drop)]
+#[derive(Clone, Copy)]
 pub struct Counts {
     pub stored: usize,
     pub numbers: usize,
@@ -20,7 +20,7 @@ pub struct Counts {
 }
 
 // What the analysis leaves: the entries of the upper pattern, and what L has.
-#[derive(Drop)]
+#[derive(Clone, Copy)]
 pub struct Analysis {
     pub entries: usize,
     pub counts: Counts,

@@ -8,7 +8,7 @@ use scalar::blank;
 use scalar::cores::copy;
 
 // How the core ends.
-#[derive(Drop)]
+#[derive(Clone, Copy)]
 pub enum Settled {
     Accepted(LdltResult),
     NotFinite { place: usize, pivot: f64 },

@@ -9,7 +9,7 @@ use dense_pivots::LdltResult;
 use scalar::is_tolerance;
 
 // The outcome of a block's decomposition.
-#[derive(Drop)]
+#[derive(Clone, Copy)]
 pub enum Decomposed {
     Accepted(LdltResult),
     // 2: n is 0 or above 16.

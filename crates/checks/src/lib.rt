@@ -16,7 +16,7 @@ pub const MAX_BLOCKS: usize = 4096;
 pub const MAX_STORED: usize = 65536;
 
 // The outcome of a check of A's tables, the permutation, the late flags and the tolerance.
-#[derive(Drop)]
+#[derive(Clone, Copy)]
 pub enum System {
     Accepted(Worked),
     // 1
@@ -42,7 +42,7 @@ pub enum System {
 }
 
 // The outcome of a check of A's tables without its values, the permutation and the late flags; places as above.
-#[derive(Drop)]
+#[derive(Clone, Copy)]
 pub enum PlanTables {
     Accepted(Worked),
     // 1
@@ -64,7 +64,7 @@ pub enum PlanTables {
 }
 
 // The outcome of a check of a factor's tables; places as above.
-#[derive(Drop)]
+#[derive(Clone, Copy)]
 pub enum Factor {
     Accepted(Worked),
     // 1

@@ -11,7 +11,7 @@ ghost use Rattle.columns.specs.Least.{least_row};
 use tables::cores::wide;
 
 // What the least row of column j is: j in A, j + 1 in a factor, 0 in an upper pattern.
-#[derive(Drop)]
+#[derive(Clone, Copy)]
 pub enum Least {
     Diagonal,
     PastDiagonal,

@@ -9,7 +9,7 @@ use scalar::cores::store;
 use scalar::{blank, is_finite};
 
 // How the core ends: a refusal carries the row and its pivot.
-#[derive(Drop)]
+#[derive(Clone, Copy)]
 pub enum Factored {
     Accepted(LdltResult),
     NotFinite { place: usize, pivot: f64 },

@@ -9,7 +9,7 @@ pub use dense_pivots::{Definiteness, LdltResult};
 use scalar::is_tolerance;
 
 // The outcome of a decomposition.
-#[derive(Drop)]
+#[derive(Clone, Copy)]
 pub enum Decomposed {
     Accepted(LdltResult),
     // 2: n is above 16.

@@ -6,7 +6,7 @@ use crate::{Definiteness, LdltResult};
 use scalar::{abs, max, min};
 
 // The account of the pivots stored so far.
-#[derive(Drop)]
+#[derive(Clone, Copy)]
 pub struct Pivots {
     // The greatest |d|, from 1.0 on.
     pub greatest: f64,

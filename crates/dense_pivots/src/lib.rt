@@ -2,7 +2,7 @@
 pub mod cores;
 
 // What the stored pivots say of a block.
-#[derive(Drop)]
+#[derive(Clone, Copy)]
 pub enum Definiteness {
     // All are positive.
     PositiveDefinite,
@@ -13,7 +13,7 @@ pub enum Definiteness {
 }
 
 // The record of an accepted block.
-#[derive(Drop)]
+#[derive(Clone, Copy)]
 pub struct LdltResult {
     // How many stored pivots are not 0.0.
     pub rank: usize,

@@ -90,4 +90,4 @@ module _ (n : ℕ) (l d x₀ : List Float) where
 
   pub ahead_all : (t : ℕ) (x : List Float) → t ≤ n → n ≤ t → Ahead n l d x₀ t x → x ≡ lower_transpose_solve n l (diag_solve n d x₀)
   unfolding steps lower_transpose_solve
-  ahead_all t x p q a = let e : n - t ≡ 0 = omega arith in steps_all _ t n _ x (rw e at a.far) p q
+  ahead_all t x p q a = let e : n - t ≡ 0 = omega arith in steps_all (λ t'. transpose_row n l (n - 1 - t') t') t n (diag_solve n d x₀) x (rw e at a.far) p q

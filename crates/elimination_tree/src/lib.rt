@@ -11,7 +11,7 @@ use refusal::Worked;
 use upper_checks::{Upper, check_upper};
 
 // The outcome of `new`.
-#[derive(Drop)]
+#[derive(Clone, Copy)]
 pub enum Grown {
     Accepted(Worked),
     // 1

@@ -13,7 +13,7 @@ use load_column::cores::load_column;
 use work_column::cores::work_column;
 
 // How a column ends.
-#[derive(Drop)]
+#[derive(Clone, Copy)]
 pub enum Turned {
     // The products of all columns so far.
     Stored { count: u64 },

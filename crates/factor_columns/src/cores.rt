@@ -10,7 +10,7 @@ ghost use Rattle.factor_columns.specs.Columns.{Runs};
 use factor_column::cores::{Turned, factor_column};
 
 // How the columns end.
-#[derive(Drop)]
+#[derive(Clone, Copy)]
 pub enum Worked {
     // The products of all columns.
     Done {

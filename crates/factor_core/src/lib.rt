@@ -4,7 +4,7 @@ pub mod cores;
 use analysis::cores::Counts;
 
 // The outcome of `factorize`.
-#[derive(Drop)]
+#[derive(Clone, Copy)]
 pub enum Factorized {
     // L's blocks below the diagonal, L's numbers, and the block products worked through.
     Accepted(Counts),

@@ -11,7 +11,7 @@ ghost use Rattle.factor_match.specs.Match.{match_of};
 use match_rows::cores::{first_off, first_stray, first_unlinked, first_unpassed};
 
 // What a factor's tables are to a system's.
-#[derive(Drop)]
+#[derive(Clone, Copy)]
 pub enum Match {
     // The parents are the elimination tree, and every column has the rows of the path rule.
     Same,

@@ -37,7 +37,7 @@ pub l-measured : (dims starts rows order l_starts l_rows : List ℕ) → Layable
 l-measured dims starts rows order l_starts l_rows g =
     let e = sizes-count dims order g.permutes in
     record {
-      sizes = sizes-sound dims order g.permutes g.decreases.sizes;
+      sizes = sizes-sound dims order g.permutes g.measured.sizes;
       ordered = subst (λ (m : ℕ). Ordered l_starts m (length l_rows)) (sym e) g.columns.ordered;
       below = λ p h. subst (λ (m : ℕ). get_or l_rows p 0 < m) (sym e) (g.columns.below p h);
       few = omega (arith, g.filled);

@@ -12,7 +12,7 @@ use word_list::words::size;
 use word_list::{room, words};
 
 // What a turn at the list comes to.
-#[derive(Drop)]
+#[derive(Clone, Copy)]
 pub enum Turn {
     // The word that ends the list.
     End,
@@ -221,7 +221,7 @@ fn with_scratch(
 }
 
 // How long the scratch after the working column is lent: apart, since a call is dear to prove in a function that hands on thirty places.
-#[derive(Drop)]
+#[derive(Clone, Copy)]
 struct Lengths {
     inverse: usize,
     sizes: usize,

@@ -13,7 +13,7 @@ pub const ROOM: usize = 40960;
 // The first mark; the next are each one more.
 const MARK: f64 = 3000000000.5;
 
-#[derive(Drop)]
+#[derive(Clone, Copy)]
 pub struct Number {
     // False where the input has ended.
     pub is: bool,

@@ -1,8 +1,9 @@
 // What the program writes.
 use io::{print_decimal, write_all};
-use libc::STDOUT_FILENO;
 use word_list::print::{counts, verdict};
 use word_list::tally::total;
+
+const STDOUT: i32 = 1;
 
 // A line for each kind, one for all, and the verdict.
 pub fn summary(cases: &[usize; 16], right: &[usize; 16]) {
@@ -14,11 +15,11 @@ pub fn summary(cases: &[usize; 16], right: &[usize; 16]) {
 }
 
 pub fn wrong(k: u64, kind: usize) {
-    write_all(STDOUT_FILENO, b"wrong: case ");
-    print_decimal(STDOUT_FILENO, k);
-    write_all(STDOUT_FILENO, b", ");
+    write_all(STDOUT, b"wrong: case ");
+    print_decimal(STDOUT, k);
+    write_all(STDOUT, b", ");
     name(kind);
-    write_all(STDOUT_FILENO, b"\n");
+    write_all(STDOUT, b"\n");
 }
 
 fn name(kind: usize) {
@@ -30,25 +31,25 @@ fn name(kind: usize) {
 
 fn name_pattern(kind: usize) {
     match kind {
-        1 => write_all(STDOUT_FILENO, b"random"),
-        2 => write_all(STDOUT_FILENO, b"dense"),
-        3 => write_all(STDOUT_FILENO, b"shapes"),
-        4 => write_all(STDOUT_FILENO, b"few blocks"),
-        5 => write_all(STDOUT_FILENO, b"late flags"),
-        6 => write_all(STDOUT_FILENO, b"zero blocks and missing ones"),
-        7 => write_all(STDOUT_FILENO, b"rank deficient"),
-        _ => write_all(STDOUT_FILENO, b"at the threshold"),
+        1 => write_all(STDOUT, b"random"),
+        2 => write_all(STDOUT, b"dense"),
+        3 => write_all(STDOUT, b"shapes"),
+        4 => write_all(STDOUT, b"few blocks"),
+        5 => write_all(STDOUT, b"late flags"),
+        6 => write_all(STDOUT, b"zero blocks and missing ones"),
+        7 => write_all(STDOUT, b"rank deficient"),
+        _ => write_all(STDOUT, b"at the threshold"),
     };
 }
 
 fn name_other(kind: usize) {
     match kind {
-        9 => write_all(STDOUT_FILENO, b"small and large numbers"),
-        10 => write_all(STDOUT_FILENO, b"NaN and infinities"),
-        11 => write_all(STDOUT_FILENO, b"refused at a block"),
-        12 => write_all(STDOUT_FILENO, b"by hand"),
-        13 => write_all(STDOUT_FILENO, b"large"),
-        14 => write_all(STDOUT_FILENO, b"one fault or two"),
-        _ => write_all(STDOUT_FILENO, b"lent buffers"),
+        9 => write_all(STDOUT, b"small and large numbers"),
+        10 => write_all(STDOUT, b"NaN and infinities"),
+        11 => write_all(STDOUT, b"refused at a block"),
+        12 => write_all(STDOUT, b"by hand"),
+        13 => write_all(STDOUT, b"large"),
+        14 => write_all(STDOUT, b"one fault or two"),
+        _ => write_all(STDOUT, b"lent buffers"),
     };
 }

@@ -4,7 +4,7 @@ use factorize::Factorized;
 use replay::same;
 use word_list::words::{size, whole};
 
-#[derive(Drop)]
+#[derive(Clone, Copy)]
 pub struct Told {
     // The refusal's number, 0 for none.
     pub number: usize,

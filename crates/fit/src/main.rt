@@ -1,4 +1,6 @@
 // Reads one sheet from standard input and prints its answer: the lines of an accepted night, or `refused` and the number.
+#![tactic(auto)]
+
 use fit_answer::answer;
 use render::Line;
 

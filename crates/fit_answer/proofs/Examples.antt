@@ -52,6 +52,6 @@ line1 = 48 ∷ 32 ∷ 51 ∷ 70 ∷ 70 ∷ 56 ∷ 48 ∷ 48 ∷ 48 ∷ 48 ∷ 48
 abbrev line2 : List ℕ
 line2 = 49 ∷ 32 ∷ 51 ∷ 70 ∷ 70 ∷ 48 ∷ 48 ∷ 48 ∷ 48 ∷ 48 ∷ 48 ∷ 48 ∷ 48 ∷ 48 ∷ 48 ∷ 48 ∷ 48 ∷ 48 ∷ 32 ∷ 104 ∷ 101 ∷ 97 ∷ 114 ∷ 100 ∷ 10 ∷ []
 
-pub two_blocks : printed two_blocks ≡ line0 ++ line1 ++ line2
+pub two-blocks : printed two_blocks ≡ line0 ++ line1 ++ line2
 unfolding printed night_text of_bits to_bits add sub mul div neg lt le eq is_nan steps magnitude is_finite max min moved reach climb climbs column columns rows before first_from first sum_from sum column_of dim_ok row_ok order_ok block_area perm_ok late_ok dims_check rows_check order_check perm_check late_check sizes_of scalar_perm place_of transposed permuted_body sub_mat_diag_mat_t lower_solve lower_transpose_solve diag_solve sub_mat_plus_vec sub_mat_transpose_plus_vec lower_right_solve lower_transpose_rightsolve diag_right_matsolve ldlt_solve ldlt_right_matsolve divided_by stored_pivot clear_upper counted pivots_of ldlt ldlt_row block_ldlt inverse_of loaded load mat_product product products sequence settled_by finish stored work_column run_to through forward solved_blocks backward permuted unpermuted solution mark marks_of silent_of u32_at u32s f64s column_fits columns_check start_at starts_from offset_fits offsets_check sheet_verdict digits places bits_of scalar_line lines
-two_blocks = refl
+two-blocks = refl

@@ -12,7 +12,7 @@ use analysis::cores::Counts;
 use factor_core::Factorized;
 
 // The outcome for a night whose tables have passed.
-#[derive(Drop)]
+#[derive(Clone, Copy)]
 pub enum Fitted {
     // L's blocks below the diagonal, L's numbers, and the block products worked through.
     Accepted(Counts),

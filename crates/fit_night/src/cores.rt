@@ -14,7 +14,7 @@ use fit_solve::cores::solve_room;
 use marks::cores::mark_core;
 
 // What an accepted night hands back: L's blocks below the diagonal, the block products worked through, and the silent scalars.
-#[derive(Drop)]
+#[derive(Clone, Copy)]
 pub struct Tally {
     pub stored: usize,
     pub products: u64,
@@ -22,7 +22,7 @@ pub struct Tally {
 }
 
 // The outcome for a night whose tables have passed.
-#[derive(Drop)]
+#[derive(Clone, Copy)]
 pub enum Night {
     Accepted(Tally),
     // 13: the pivot of row `place` of a block, by new number, is NaN or infinite.

@@ -23,9 +23,9 @@ module _ (linked : ℕ → ℕ → Bool) where
   join h (through l lt p) q = through l lt (join h p q)
 
   -- a path through vertices up to b goes through b, or does not: then it is a path through vertices below b
-  pub cut : {i j : ℕ} (b : ℕ) → Path linked (suc b) i j → Path linked b i j ⊎ (Path linked b i b × Path linked b b j)
+  pub cut : (b : ℕ) {i j : ℕ} → Path linked (suc b) i j → Path linked b i j ⊎ (Path linked b i b × Path linked b b j)
   cut b (link l) = inl (link l)
-  cut {i} {j} b (through {m = m} l lt p) = go m l lt (cut b p) (dec_lt m b)
+  cut b {i} {j} (through {m = m} l lt p) = go m l lt (cut b p) (dec_lt m b)
     where
       go : (m : ℕ) → T (linked i m) → m < suc b → Path linked b m j ⊎ (Path linked b m b × Path linked b b j) → Dec (m < b)
           → Path linked b i j ⊎ (Path linked b i b × Path linked b b j)

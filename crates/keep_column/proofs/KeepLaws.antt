@@ -62,7 +62,7 @@ module _ (sizes rows offsets : List ℕ) (k from : ℕ) (values unit cache₀ : 
           let e : u ≡ v = omega arith in
           let g : at offsets u + at sizes (at rows u) * at sizes k ≤ length cache₀ = subst (λ (v : ℕ). at offsets v + at sizes (at rows v) * at sizes k ≤ length cache₀) (sym e) f in
           subst (λ (v : ℕ). slot (at offsets v) (at sizes (at rows v) * at sizes k) cache' ≡ mat_product (at sizes (at rows v)) (at sizes k) (at sizes k) (slot (at offsets v) (at sizes (at rows v) * at sizes k) values) unit) e
-          (row.own_val (subst (λ (n : ℕ). at offsets u + at sizes (at rows u) * at sizes k ≤ n) (sym up.long) g))
+          (row.own (subst (λ (n : ℕ). at offsets u + at sizes (at rows u) * at sizes k ≤ n) (sym up.long) g))
 
   pub all_kept : (end u : ℕ) (cache : List Float) → u ≤ end → end ≤ u → UpTo u cache → UpTo end cache
   all_kept end u cache le ge up = subst (λ (u : ℕ). UpTo u cache) (le_antisymm le ge) up

@@ -6,7 +6,7 @@ ghost use Rattle.scalars.specs.Scalars.{scalar_starts, scalar_count};
 ghost use Rattle.marks.specs.Mark.{mark, byte_of, silent_one, silent_of, marks_of};
 
 // What a scalar's stored d says of its sensor.
-#[derive(Drop)]
+#[derive(Clone, Copy)]
 pub enum Mark {
     // Nothing was heard: the solution's 0.0 means no evidence.
     Silent,

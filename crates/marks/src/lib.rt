@@ -10,14 +10,14 @@ use scalar::is_tolerance;
 use tables::cores::{first_dim, first_perm};
 
 // What an accepted call hands back.
-#[derive(Drop)]
+#[derive(Clone, Copy)]
 pub struct Tally {
     // How many scalars are silent.
     pub silent: usize,
 }
 
 // The outcome of `marks`.
-#[derive(Drop)]
+#[derive(Clone, Copy)]
 pub enum Marked {
     Accepted(Tally),
     // 1

@@ -6,7 +6,7 @@ ghost use Rattle.needs.specs.Needs.{told, lent_from, need_checks};
 use refusal::Worked;
 
 // Whether the buffers have room.
-#[derive(Drop)]
+#[derive(Clone, Copy)]
 pub enum Room {
     Met(Worked),
     // 11: which buffer, counted from 0 in the order of the call, and its need.

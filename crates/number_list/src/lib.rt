@@ -1,5 +1,7 @@
 // The floats of a list of 32-bit words, two words each, the low one first: read into a buffer, or compared with one. And the buffers of
 // floats that are lent to a call: marked before it, and after it zeros, NaN or what the list says, and marks beyond.
+#![tactic(auto)]
+
 ghost use Rattle.std.specs.Prelude.{◌≡◌, true, ◌≤◌, ◌<◌, length, set, drop};
 ghost use Rattle.std.specs.Float.{nan, binary64};
 ghost use Rattle.std.specs.Float.Ieee.{of_bits};
@@ -17,7 +19,7 @@ use word_list::words::whole;
 // The room for a buffer of floats.
 pub const ROOM: usize = 40960;
 
-#[derive(Drop)]
+#[derive(Clone, Copy)]
 struct Number {
     // False where the input has ended.
     is: bool,

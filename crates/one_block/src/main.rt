@@ -1,5 +1,7 @@
 // A night whose system is one block, solved by the dense decomposition: the two-block example of document 01 put into one
 // block, then a sensor with no evidence, then a NaN that lies under a dropped pivot, then a pivot that is not finite.
+#![tactic(auto)]
+
 use dense_ldlt::{Decomposed, ldlt_decompose_inplace};
 use dense_solve::ldlt_solve_inplace;
 use refusal::refused;

@@ -4,7 +4,7 @@ pub mod cores;
 use analysis::cores::Counts;
 
 // The outcome of `plan`.
-#[derive(Drop)]
+#[derive(Clone, Copy)]
 pub enum Planned {
     // L's blocks below the diagonal, L's numbers, and the block products that make it.
     Accepted(Counts),

@@ -19,7 +19,7 @@ const VALUES: usize = 4096;
 const SYSTEM: usize = 14;
 
 // What a turn at the list comes to.
-#[derive(Drop)]
+#[derive(Clone, Copy)]
 pub enum Turn {
     // The word that ends the list.
     End,

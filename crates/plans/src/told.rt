@@ -3,7 +3,7 @@ use checks::System;
 use plan::Planned;
 use word_list::words::{size, whole};
 
-#[derive(Drop)]
+#[derive(Clone, Copy)]
 pub struct Told {
     // The refusal's number, 0 for none.
     pub number: usize,

@@ -7,7 +7,7 @@ ghost use Rattle.reach.specs.Reach.{none, Parents, any_is, mark_of, stamps_of, r
 use tables::cores::NONE;
 
 // The mark that a walk used, and where in the buffer its list begins.
-#[derive(Drop)]
+#[derive(Clone, Copy)]
 pub struct Mark {
     pub mark: u32,
     pub top: usize,

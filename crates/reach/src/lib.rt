@@ -10,7 +10,7 @@ use crate::cores::{Mark, reach_core};
 use upper_checks::{Tree, check_tree};
 
 // The outcome of `reach`.
-#[derive(Drop)]
+#[derive(Clone, Copy)]
 pub enum Reached {
     // The mark that the walk used, and where in the first n places its list begins.
     Accepted(Mark),

@@ -6,12 +6,12 @@ ghost use Rattle.refusal.specs.Check.{size_check, area_check};
 ghost use Rattle.refusal.specs.Shaped.{told};
 
 // What an accepted call on shapes hands back, beside the slice that it wrote: nothing.
-#[derive(Drop)]
+#[derive(Clone, Copy)]
 pub struct Worked {}
 
 // The outcome of a call that refuses 2 and 12 alone. Places count from 0 in the order of the call: under 2 among its sizes,
 // under 12 among its slices.
-#[derive(Drop)]
+#[derive(Clone, Copy)]
 pub enum Shaped {
     Accepted(Worked),
     // 2

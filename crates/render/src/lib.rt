@@ -9,13 +9,13 @@ use crate::cores::{first_length, first_line, lines_length, put_lines, refused_li
 use digits::cores::places;
 
 // How many bytes were written.
-#[derive(Drop)]
+#[derive(Clone, Copy)]
 pub struct Text {
     pub bytes: usize,
 }
 
 // The outcome of rendering a text: a line, or all that is printed for a sheet.
-#[derive(Drop)]
+#[derive(Clone, Copy)]
 pub enum Line {
     Accepted(Text),
     // 11: the buffer's need.
@@ -23,7 +23,7 @@ pub enum Line {
 }
 
 // The outcome of rendering an answer.
-#[derive(Drop)]
+#[derive(Clone, Copy)]
 pub enum Rendered {
     Accepted(Text),
     // 11: the buffer's need.

@@ -68,7 +68,7 @@ pub fn is_tolerance(x: f64) -> bool
     false
 }
 
-// The NaN. The compiler folds this quotient of literals to the bits 0x7_f_f8000000000000, where the machine's own division
+// The NaN. The compiler folds this quotient of literals to the bits 0x7FF8000000000000, where the machine's own division
 // would set the sign; the logic cannot say which NaN it is, so a test of the compiled code does.
 pub fn not_a_number() -> f64
     ensures { result ≡ nan }

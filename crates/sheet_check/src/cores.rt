@@ -18,7 +18,7 @@ pub const ROOM_SCALARS: usize = 512;
 pub const ROOM_VALUES: usize = 4096;
 
 // What an accepted sheet has: its blocks, A's stored blocks and their numbers, the scalars, and the tolerance.
-#[derive(Drop)]
+#[derive(Clone, Copy)]
 pub struct Night {
     pub blocks: usize,
     pub stored: usize,
@@ -28,7 +28,7 @@ pub struct Night {
 }
 
 // The outcome of a check.
-#[derive(Drop)]
+#[derive(Clone, Copy)]
 pub enum Sheet {
     Accepted(Night),
     // 2: the block.

@@ -1,6 +1,8 @@
 // Replays the oracle's sheets, on standard input, against the library: how many of the accepted ones and of the refused ones are
 // answered with the same bytes, and a last line that says whether all are. A sheet in the list: two words of 32 bits, how long it and its
 // answer are, then both; 4,294,967,295 ends the list.
+#![tactic(auto)]
+
 use fit_answer::answer;
 use render::Line;
 use sheet_bytes::cores::u32_at;
@@ -13,7 +15,7 @@ const STDOUT: i32 = 1;
 const MOST: u64 = 65536;
 
 // What a turn finds.
-#[derive(Drop)]
+#[derive(Clone, Copy)]
 enum Turn {
     End,
     // The list is cut, or a part of it is longer than its room.
@@ -22,7 +24,7 @@ enum Turn {
 }
 
 // How many were found, and how many of them came out as the list says.
-#[derive(Drop)]
+#[derive(Clone, Copy)]
 struct Count {
     found: u64,
     right: u64,

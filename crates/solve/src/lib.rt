@@ -16,7 +16,7 @@ use solve_core::cores::solve_lent;
 use solve_match::cores::{Matched, first_mismatch};
 
 // The outcome of `solve_inplace`.
-#[derive(Drop)]
+#[derive(Clone, Copy)]
 pub enum Solved {
     Accepted(Worked),
     // 1

@@ -16,7 +16,7 @@ use refusal::Worked;
 use tables::cores::{first_dim, first_late, first_perm, first_start};
 
 // The outcome of a check of the tables of a solve.
-#[derive(Drop)]
+#[derive(Clone, Copy)]
 pub enum SolveTables {
     Accepted(Worked),
     // 1

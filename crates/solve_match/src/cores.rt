@@ -14,7 +14,7 @@ use factor_tables::cores::{scalars, unit_numbers};
 use refusal::Worked;
 
 // What a factor and a right side are to a system.
-#[derive(Drop)]
+#[derive(Clone, Copy)]
 pub enum Matched {
     // The factor's tables are those of the system's own plan, and each list has its length.
     Same(Worked),

@@ -2,6 +2,6 @@
 pub mod Climbs  -- the climbs that count or store what they find
 pub mod Walks  -- the walk over stamps is the theory's walk
 pub mod Columns  -- the passes make the theory's columns
-pub mod Passes  -- the invariant of the counting pass, and the layout
+pub mod Passes  -- the invariants of the two passes
 pub mod Numbers  -- the sums of the counting pass
 pub mod Davis  -- the public walk over the tree's parents finds Davis's reach

@@ -1,17 +1,17 @@
--- The invariant of the counting pass: how it begins, what it may ask, how it turns and ends; and the layout from the counts. Assumes nothing.
-use Rattle.std.specs.Prelude.{◌≡◌, ℕ, ◌+◌, ◌*◌, ◌<◌, ◌≤◌, T, List, [], reverse, length, get_or, set, replicate}
+-- The invariants of the counting pass and of the filling pass: how each begins, what it may ask, how it turns and ends. Assumes nothing.
+use Rattle.std.specs.Prelude.{◌≡◌, ℕ, ◌+◌, ◌*◌, ◌<◌, ◌≤◌, T, List, [], reverse, length, get_or, take, set, replicate}
 use mathlib.Core.Path.{refl, sym, ap, ap₂, subst, ◌∙◌}
 use native.Mathlib.Omega.{arith}
 use native.Mathlib.Numerals.{add-one}
 use lib.ListN.{length-replicate, get_or-replicate, length-map}
-use lib.Seq.{slice}
-use Rattle.graph.specs.Sets.{elem, between, sum, Uniq}
+use lib.Seq.{slice, get_or-take, length-take-le}
+use Rattle.graph.specs.Sets.{elem, between, sum, gather, Uniq}
 use Rattle.graph.proofs.SumLaws.{sum-ext}
 use Rattle.graph.specs.Symbolic as L
 use Rattle.graph.proofs.SymbolicLaws.{columns_length}
-use Rattle.buckets.specs.Buckets.{appends, scatter, lengths, bumps, Roomy, Laid, before}
+use Rattle.buckets.specs.Buckets.{appends, scatter, lengths, bumps, stores, Roomy, Held, Laid, before}
 use Rattle.buckets.proofs.Lists.{map-replicate}
-use Rattle.buckets.proofs.Laws.{appends-lengths, lengths-at, scatter-few, scatter-room, before-sum, laid_out}
+use Rattle.buckets.proofs.Laws.{appends-lengths, lengths-at, scatter-few, scatter-room, held_none, held-roomy, held-appends, held_all, before-sum, laid_out}
 use Rattle.buckets.proofs.Turns.{before_small}
 use Rattle.elimination_tree.specs.Tree.{linked_up}
 use Rattle.elimination_tree.proofs.Links.{linked-symm}
@@ -134,6 +134,68 @@ module _ (starts rows : List ℕ) (n : ℕ) where
     pub number_ends : j ≤ n → n ≤ j → numbers ≡ numbers_of (linked_up starts rows) n sizes
     number_ends a b =
         g.sum_so_far ∙ up_all (λ i. sum (climbed i) (area sizes i)) n j a b ∙ by_columns (linked_up starts rows) n symm (area sizes)
+
+  -- ---- the filling pass
+
+  -- the places of column k
+  abbrev pub size : ℕ → ℕ
+  size k = length (get_or (columns_of starts rows n) k [])
+
+  pub record Filling (parent heads stamp next table : List ℕ) (j : ℕ) : Type 0 where
+    pub tree : Tree n starts rows parent
+    pub stamps : length stamp ≡ n
+    pub small : length table < 4294967296
+    pub first : get_or heads 0 0 ≡ 0
+    pub below : Below j stamp
+    pub inside : j ≤ n
+    pub held : Held n size heads next table (made j)
+
+  pub fill_begins : (parent heads stamp next table : List ℕ) → Tree n starts rows parent → stamp ≡ replicate n 0
+      → Laid (columns_of starts rows n) heads (length table) → next ≡ take n heads → Filling parent heads stamp next table 0
+  unfolding scatter
+  fill_begins parent heads stamp next table t es l en =
+      let c = columns_length (linked_up starts rows) n n in
+      record {
+        tree = t;
+        stamps = ap length es ∙ length-replicate n 0;
+        small = l.small;
+        first = l.first;
+        below = below_none stamp n es;
+        inside = omega arith;
+        held = held_none n size heads next table (ap length en ∙ length-take-le n heads (omega (arith, l.count)))
+            (λ k h. l.laid k (omega arith)) (ap (λ (m : ℕ). get_or heads m 0) (sym c) ∙ l.whole)
+            (λ k h. ap (λ (x : List ℕ). get_or x k 0) en ∙ get_or-take n heads k 0 h);
+      }
+
+  module _ (parent heads stamp next table : List ℕ) (j : ℕ) (g : Filling parent heads stamp next table j) where
+    module _ (h : j < n) (part : List ℕ) (lent : part ≡ slice (get_or starts j 0) (get_or starts (j + 1) 0) rows) where
+      -- what `store_climbs` asks
+      pub fill_asks : Roomy (reached parent (j + 1) j part (set stamp j (j + 1))).found next (length table)
+      fill_asks = held-roomy n size heads next table (made j) g.held (reached parent (j + 1) j part (set stamp j (j + 1))).found (scan-room parent g.tree j h stamp g.stamps g.below part lent)
+
+      pub fill_turns : (stamp' next' table' : List ℕ) → length stamp' ≡ n → length table' ≡ length table → stamp' ≡ (reached parent (j + 1) j part (set stamp j (j + 1))).stamps
+          → next' ≡ bumps (reverse (reached parent (j + 1) j part (set stamp j (j + 1))).found) next → table' ≡ stores j (reverse (reached parent (j + 1) j part (set stamp j (j + 1))).found) next table
+          → Filling parent heads stamp' next' table' (j + 1)
+      fill_turns stamp' next' table' ls lt es en et =
+          let e = scan-climbed parent g.tree j h stamp g.stamps g.below part lent in
+          record {
+            tree = g.tree;
+            stamps = ls;
+            small = subst (λ (m : ℕ). m < 4294967296) (sym lt) g.small;
+            first = g.first;
+            below = scan-below parent g.tree j h stamp g.stamps g.below part lent stamp' es;
+            inside = omega arith;
+            held = subst (Held n size heads next' table') (sym (made-next j))
+                (rw (en, et, e) (held-appends n size heads next table (made j) g.held j (climbed j) (once j h) (λ k m. not_full j k h m)));
+          }
+
+    pub fill_ends : n ≤ j → table ≡ gather (L.rows (linked_up starts rows) n) (between 0 n)
+    unfolding L.rows
+    fill_ends h =
+        let all : j ≡ n = omega (arith, g.inside) in
+        let same : made j ≡ columns_of starts rows n = ap made all ∙ all_made in
+        held_all n size heads next table (made j) g.held (λ k b. ap (λ (c : List (List ℕ)). length (get_or c k [])) same) g.first
+        ∙ ap (λ (c : List (List ℕ)). gather (λ k. get_or c k []) (between 0 n)) same
 
   -- ---- the layout
 

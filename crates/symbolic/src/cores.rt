@@ -1,12 +1,13 @@
-// The plan of L: how many rows each column has, from an upper pattern and Liu's table of parents, and the climbs that store them (crate fill_rows).
+// The plan of L: how many rows each column has, where each begins, and the rows themselves, from an upper pattern and Liu's table of parents.
 // For j ascending the columns that reach j are walked and j goes to the end of each: every column comes out ascending, with no sorting.
-// Both kinds of climb do their work on a column where they come upon it, so neither makes a list of what it found.
-ghost use Rattle.std.specs.Prelude.{◌≡◌, ℕ, ◌+◌, ◌*◌, ◌<◌, ◌≤◌, reverse, length, drop, slice_index};
-ghost use Rattle.graph.specs.Sets.{between, sum};
+// Both passes do their work on a column where the climb comes upon it, so neither makes a list of what it found.
+ghost use Rattle.std.specs.Prelude.{◌≡◌, ℕ, ◌+◌, ◌*◌, ◌<◌, ◌≤◌, T, ◌++◌, reverse, length, drop, slice_index};
+ghost use Rattle.graph.specs.Sets.{elem, between, gather, sum};
 ghost use Rattle.graph.specs.Count.{products_of};
+ghost use Rattle.graph.specs.Symbolic as L;
 ghost use Rattle.elimination_tree.specs.Tree.{linked_up};
 ghost use Rattle.reach.specs.Reach.{Parents, reached};
-ghost use Rattle.buckets.specs.Buckets.{bumps, stores, Roomy, lengths};
+ghost use Rattle.buckets.specs.Buckets.{bumps, stores, Roomy, lengths, Laid};
 ghost use Rattle.symbolic.specs.Columns.{Tree, Below, Sized, found, columns_of, numbers_of};
 
 use tables::cores::{NONE, wide};
@@ -142,6 +143,37 @@ pub fn store_climbs(
     }
 }
 
+// The filling pass: the rows of L, column after column, into exactly the places that `l_starts` gives. `stamp` and `next` are scratch;
+// nothing is put into `out`.
+pub fn fill(
+    starts: &[u32],
+    rows: &[u32],
+    parent: &[u32],
+    l_starts: &[u32],
+    stamp: &mut [u32],
+    out: &mut [u32],
+    next: &mut [u32],
+    l_rows: &mut [u32],
+)
+    requires tree { Tree (length parent.now) starts.now rows.now parent.now }
+    requires stamp_len { (length stamp.old ≡ length parent.now) × (length out.old ≡ length parent.now) × (length next.old ≡ length parent.now) }
+    requires laid { Laid (columns_of starts.now rows.now (length parent.now)) l_starts.now (length l_rows.old) }
+    ensures { l_rows.new ≡ gather (L.rows (linked_up starts.now rows.now) (length parent.now)) (between 0 (length parent.now)) }
+{
+    buckets::cores::fill(stamp, 0);
+    buckets::cores::copy(l_starts, next);
+    let n = parent.len();
+    let mut j = 0;
+    while j < n {
+        let from = starts[j] as usize;
+        let to = starts[j + 1] as usize;
+        let mark = j as u32 + 1;
+        stamp[j] = mark;
+        store_climbs(parent, &rows[from..to], j as u32, mark, stamp, next, l_rows);
+        j += 1;
+    }
+}
+
 // What a column of c rows costs: c(c + 1)/2 block products.
 pub fn products_of(c: u32) -> u64
     requires { c ≤ 65536 }
@@ -152,7 +184,7 @@ pub fn products_of(c: u32) -> u64
 }
 
 // How many blocks L has, and how many block products make it.
-#[derive(Drop)]
+#[derive(Clone, Copy)]
 pub struct Totals {
     pub stored: usize,
     pub products: u64,

@@ -1,2 +1,2 @@
-// The plan of L: how many rows each column has, and the climbs that store them.
+// The plan of L: how many rows each column has, where each begins, and the rows.
 pub mod cores;

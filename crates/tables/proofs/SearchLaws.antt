@@ -4,13 +4,13 @@
 --     first_past, first-at     where the test holds on a part, and then fails
 --     Searched, with searched, passed, failed, ended: the invariant of a search and its steps
 --     Summed, with summed, added, added-le, all-added: the invariant of a sum and its steps
-use Rattle.std.specs.Prelude.{◌≡◌, ℕ, zero, suc, ◌+◌, ◌-◌, ◌*◌, ◌<◌, ◌≤◌, Bool, true, false, cond, not, ltb, ◌⊎◌}
+use Rattle.std.specs.Prelude.{◌≡◌, ℕ, zero, suc, ◌+◌, ◌-◌, ◌*◌, ◌<◌, ◌≤◌, Bool, true, false, cond, ltb, ◌⊎◌}
 use mathlib.Core.Path.{refl, sym, ◌∙◌}
 use mathlib.Core.Logic.{inl, inr, ⊎_elim}
 use native.Mathlib.Numerals.{add-one}
 use native.Mathlib.Nat.{eq-or-lt_of_le, mul-suc}
 use native.Mathlib.Omega.{arith}
-use borrow.Author.Tests.{not-true, not-false, ltb-true, ltb-false}
+use borrow.Author.Tests.{ltb-true, ltb-false}
 use Rattle.tables.specs.Search.{first_from, first, sum_from, sum}
 
 pub lt-or-ge : (m n : ℕ) → (m < n) ⊎ (n ≤ m)
@@ -158,12 +158,12 @@ module _ {ok : ℕ → Bool} {lo hi : ℕ} where
 
   module _ {i : ℕ} (s : Searched ok lo hi i) where
     -- the test at i answers r, which is what `ok` says; it holds: one more turn
-    pub passed : {r : Bool} → i < hi → r ≡ ok i → not r ≡ false → Searched ok lo hi (i + 1)
-    passed h e t = record { within = omega arith; same = s.same ∙ first_next ok i hi h (sym e ∙ not-false _ t) }
+    pub passed : {r : Bool} → i < hi → r ≡ ok i → r ≡ true → Searched ok lo hi (i + 1)
+    passed h e t = record { within = omega arith; same = s.same ∙ first_next ok i hi h (sym e ∙ t) }
 
     -- it fails: the answer is i
-    pub failed : {r : Bool} → i < hi → r ≡ ok i → not r ≡ true → i ≡ first ok lo hi
-    failed h e t = sym (s.same ∙ first-here ok i hi h (sym e ∙ not-true _ t))
+    pub failed : {r : Bool} → i < hi → r ≡ ok i → r ≡ false → i ≡ first ok lo hi
+    failed h e t = sym (s.same ∙ first-here ok i hi h (sym e ∙ t))
 
     -- nothing is left: the answer is i
     pub ended : hi ≤ i → i ≡ first ok lo hi

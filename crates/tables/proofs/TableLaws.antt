@@ -26,6 +26,7 @@ use Rattle.tables.proofs.MarkLaws.{perm-parts, perm-fresh, elem-before}
 
 -- an element has a place
 pub place-of : (x : ℕ) (l : List ℕ) → T (elem x l) → (i : ℕ) × (i < length l) × (at l i ≡ x)
+place-of x [] t = elim t [ ]
 place-of x (y ∷ l) t = ⊎_elim here (λ h. there (place-of x l h)) (elem-cases x y l t)
   where
     here : x ≡ y → (i : ℕ) × (i < length (y ∷ l)) × (at (y ∷ l) i ≡ x)

@@ -5,7 +5,7 @@ ghost use Rattle.tiled_product.specs.Tiled.{Stripped, Stands, Onward, times_diag
 use scalar::cores::{entry, store};
 
 // Three entries of a row of Y, or of a column of B.
-#[derive(Drop)]
+#[derive(Clone, Copy)]
 pub struct Three {
     pub c0: f64,
     pub c1: f64,
@@ -13,7 +13,7 @@ pub struct Three {
 }
 
 // Three rows of them.
-#[derive(Drop)]
+#[derive(Clone, Copy)]
 pub struct Nine {
     pub r0: Three,
     pub r1: Three,
@@ -21,7 +21,7 @@ pub struct Nine {
 }
 
 // Four rows of them.
-#[derive(Drop)]
+#[derive(Clone, Copy)]
 pub struct Twelve {
     pub top: Nine,
     pub r3: Three,

@@ -9,7 +9,7 @@ use scalar::cores::{entry, store};
 use tiled_product::cores::{height, store3, store4};
 
 // Three entries of a column, one below the other.
-#[derive(Drop)]
+#[derive(Clone, Copy)]
 pub struct Three {
     pub r0: f64,
     pub r1: f64,
@@ -17,7 +17,7 @@ pub struct Three {
 }
 
 // Four of them.
-#[derive(Drop)]
+#[derive(Clone, Copy)]
 pub struct Four {
     pub top: Three,
     pub r3: f64,

@@ -10,7 +10,7 @@ use word_list::words::{listed, size};
 const TREE: u32 = 1;
 
 // What a turn at the list comes to.
-#[derive(Drop)]
+#[derive(Clone, Copy)]
 pub enum Turn {
     // The word that ends the list.
     End,

@@ -1,5 +1,7 @@
 // Replays the oracle's trees and walks, on standard input, against the library: of each kind how many there are and how many come out as
 // the list says, and a last line that says whether all do.
+#![tactic(auto)]
+
 mod call;
 mod print;
 mod told;

@@ -1,8 +1,9 @@
 // What the program writes.
 use io::{print_decimal, write_all};
-use libc::STDOUT_FILENO;
 use word_list::print::{counts, verdict};
 use word_list::tally::total;
+
+const STDOUT: i32 = 1;
 
 // A line for each kind, one for all, and the verdict.
 pub fn summary(cases: &[usize; 16], right: &[usize; 16]) {
@@ -14,15 +15,15 @@ pub fn summary(cases: &[usize; 16], right: &[usize; 16]) {
 }
 
 pub fn bad() {
-    write_all(STDOUT_FILENO, b"bad list\n");
+    write_all(STDOUT, b"bad list\n");
 }
 
 pub fn wrong(k: u64, kind: usize) {
-    write_all(STDOUT_FILENO, b"wrong: turn ");
-    print_decimal(STDOUT_FILENO, k);
-    write_all(STDOUT_FILENO, b", ");
+    write_all(STDOUT, b"wrong: turn ");
+    print_decimal(STDOUT, k);
+    write_all(STDOUT, b", ");
     name(kind);
-    write_all(STDOUT_FILENO, b"\n");
+    write_all(STDOUT, b"\n");
 }
 
 fn name(kind: usize) {
@@ -34,23 +35,23 @@ fn name(kind: usize) {
 
 fn name_accepted(kind: usize) {
     match kind {
-        1 => write_all(STDOUT_FILENO, b"P1, P2"),
-        2 => write_all(STDOUT_FILENO, b"trees of plans"),
-        3 => write_all(STDOUT_FILENO, b"walks of plans"),
-        4 => write_all(STDOUT_FILENO, b"rows skipped"),
-        5 => write_all(STDOUT_FILENO, b"mark and stamps"),
-        6 => write_all(STDOUT_FILENO, b"any parents"),
-        _ => write_all(STDOUT_FILENO, b"at the limits"),
+        1 => write_all(STDOUT, b"P1, P2"),
+        2 => write_all(STDOUT, b"trees of plans"),
+        3 => write_all(STDOUT, b"walks of plans"),
+        4 => write_all(STDOUT, b"rows skipped"),
+        5 => write_all(STDOUT, b"mark and stamps"),
+        6 => write_all(STDOUT, b"any parents"),
+        _ => write_all(STDOUT, b"at the limits"),
     };
 }
 
 fn name_refused(kind: usize) {
     match kind {
-        8 => write_all(STDOUT_FILENO, b"tree: one fault"),
-        9 => write_all(STDOUT_FILENO, b"tree: two faults"),
-        10 => write_all(STDOUT_FILENO, b"tree: lent buffers"),
-        11 => write_all(STDOUT_FILENO, b"walk: one fault"),
-        12 => write_all(STDOUT_FILENO, b"walk: two faults"),
-        _ => write_all(STDOUT_FILENO, b"walk: lent buffers"),
+        8 => write_all(STDOUT, b"tree: one fault"),
+        9 => write_all(STDOUT, b"tree: two faults"),
+        10 => write_all(STDOUT, b"tree: lent buffers"),
+        11 => write_all(STDOUT, b"walk: one fault"),
+        12 => write_all(STDOUT, b"walk: two faults"),
+        _ => write_all(STDOUT, b"walk: lent buffers"),
     };
 }

@@ -3,7 +3,7 @@ use elimination_tree::Grown;
 use reach::Reached;
 use word_list::words::size;
 
-#[derive(Drop)]
+#[derive(Clone, Copy)]
 pub struct Told {
     // The refusal's number, 0 for none.
     pub number: usize,

@@ -9,7 +9,7 @@ use refusal::Worked;
 use tables::cores::{first_parent, first_start};
 
 // The outcome of a check of an upper pattern.
-#[derive(Drop)]
+#[derive(Clone, Copy)]
 pub enum Upper {
     Accepted(Worked),
     // 1
@@ -23,7 +23,7 @@ pub enum Upper {
 }
 
 // The outcome of a check of an upper pattern with the parents of its blocks; places as above.
-#[derive(Drop)]
+#[derive(Clone, Copy)]
 pub enum Tree {
     Accepted(Worked),
     // 1

@@ -12,7 +12,7 @@ use dense_pivots::{Definiteness, LdltResult};
 use refusal::Shaped;
 use replay::{count, float, on, same};
 
-#[derive(Drop)]
+#[derive(Clone, Copy)]
 pub struct Told {
     // The refusal's number, 0 for none.
     pub number: usize,

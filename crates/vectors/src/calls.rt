@@ -4,7 +4,7 @@ use replay::{count, float};
 use vector_answers::{Told, of_block, of_dense, of_shaped};
 
 // What a call is given beside its slices.
-#[derive(Drop)]
+#[derive(Clone, Copy)]
 pub struct Head {
     pub op: usize,
     pub p: usize,

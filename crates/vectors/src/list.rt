@@ -2,15 +2,16 @@
 ghost use Rattle.std.specs.Prelude.{◌≡◌, ◌≤◌, length};
 
 use crate::calls::{call, head_of};
-use libc::STDIN_FILENO;
 use replay::{count, fill, on, same_slice};
 use vector_answers::matches;
+
+const STDIN: i32 = 0;
 
 // No slice of the list is longer.
 const ROOM: usize = 512;
 
 // What a turn at the list comes to.
-#[derive(Drop)]
+#[derive(Clone, Copy)]
 pub enum Turn {
     // The word that ends the list.
     End,
@@ -23,7 +24,7 @@ pub enum Turn {
 // Reads the next case and judges it.
 pub fn next() -> Turn {
     let mut head = [0u8; 8];
-    let got = io::read_full(STDIN_FILENO, &mut head);
+    let got = io::read_full(STDIN, &mut head);
     if got < 8 {
         return Turn::Bad;
     }
@@ -40,7 +41,7 @@ pub fn next() -> Turn {
 }
 
 fn read_case(buffer: &mut [u8]) -> Turn {
-    let got = io::read_full(STDIN_FILENO, buffer);
+    let got = io::read_full(STDIN, buffer);
     if got < buffer.len() {
         return Turn::Bad;
     }

@@ -1,5 +1,7 @@
 // Replays the oracle's list, on standard input, against the library: how many cases each function has, and how many come out
 // other than the list says.
+#![tactic(auto)]
+
 mod calls;
 mod list;
 mod print;

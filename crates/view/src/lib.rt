@@ -11,21 +11,21 @@ use refusal::{Shaped, area, refused, size, unchecked};
 use scalar::cores::entry;
 
 // A block: its numbers, column by column, its height and its width.
-#[derive(Drop)]
+#[derive(Clone, Copy)]
 pub struct BlockView<'a> {
     pub data: &'a [f64],
     pub height: usize,
     pub width: usize,
 }
 
-#[derive(Drop)]
+#[derive(Clone, Copy)]
 pub struct Number {
     pub value: f64,
 }
 
 // The outcome of a look at one entry. A place is, for 2, 0 for the height and 1 for the width; for 12, 0 for the slice, 1
 // for the row and 2 for the column.
-#[derive(Drop)]
+#[derive(Clone, Copy)]
 pub enum Looked {
     Accepted(Number),
     // 2

@@ -1,6 +1,6 @@
 -- The laws of tests, of marks, of parts that are lent, and of sums. Assumes nothing.
 use mathlib.Core.Path.{◌≡◌, refl, sym, ◌∙◌}
-use mathlib.Core.Bool.{Bool, true, false, not, ◌&&◌}
+use mathlib.Core.Bool.{Bool, true, false, ◌&&◌}
 use mathlib.Core.List.{List}
 use Prim.Native.Nat.{ℕ, ◌+◌, ◌≤◌, ◌<◌}
 use native.Mathlib.Numerals.{add-one}
@@ -17,13 +17,13 @@ pub never : {A : Type 0} → false ≡ true → A
 never h = let z : ◌≡◌ {A = ℕ} 0 1 = cc in absurd (omega arith)
 
 -- the first of several tests fails, or leaves it to the others
-pub fails : (a b : Bool) → not a ≡ true → false ≡ (a && b)
-fails true b h = never h
+pub fails : (a b : Bool) → a ≡ false → false ≡ (a && b)
+fails true b h = never (sym h)
 fails false b h = refl
 
-pub passes : {r : Bool} (a b : Bool) → not a ≡ false → r ≡ b → r ≡ (a && b)
+pub passes : {r : Bool} (a b : Bool) → a ≡ true → r ≡ b → r ≡ (a && b)
 passes true b h e = e
-passes false b h e = cc
+passes false b h e = never h
 
 -- ---- marks
 

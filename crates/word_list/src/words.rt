@@ -2,9 +2,9 @@
 ghost use Rattle.std.specs.Prelude.{◌≡◌, true, false, ◌<◌, ◌≤◌, length, drop, set};
 ghost use Rattle.word_list.specs.Words.{word_of, whole_of};
 
-use libc::STDIN_FILENO;
+const STDIN: i32 = 0;
 
-#[derive(Drop)]
+#[derive(Clone, Copy)]
 pub struct Word {
     // False where the input has ended.
     pub is: bool,
@@ -16,7 +16,7 @@ pub fn next() -> Word
     ensures { result.is ≡ false → result.value ≡ 0 }
 {
     let mut b = [0u8; 4];
-    let got = io::read_full(STDIN_FILENO, &mut b);
+    let got = io::read_full(STDIN, &mut b);
     if got < 4 {
         return Word {
             is: false,

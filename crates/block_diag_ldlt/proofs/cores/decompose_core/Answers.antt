@@ -1,0 +1,33 @@
+-- `block_diag_ldlt::cores::decompose_core` meets its contract: what the decomposition of the copy answers is settled case by case. Assumes nothing.
+use Rattle.std.specs.Prelude.{◌≡◌, ◌*◌, length}
+use mathlib.Core.Path.{ap, sym, ◌∙◌}
+use native.Mathlib.Omega.{arith}
+use borrow.Author.Rules.{rules}
+use Rattle.block_diag_ldlt.specs.Block.{settle, block_ldlt}
+use Rattle.block_diag_ldlt.proofs.cores.decompose_core.Goals as goal
+
+pub returns-then-is_poor : goal.returns-then-is_poor
+unfolding block_ldlt
+returns-then-is_poor c =
+    let x = c.args in
+    let is-poor = sym c.is_poor.ensures ∙ c.if-is_poor.true in
+    let settled = ap (settle x.n) (rw c.in-Accepted.is at c.ldlt_decompose_core-r.ensures) in
+    let factor : length c.ldlt_decompose_core-r.new.a ≡ x.n * x.n = omega (arith, c.ldlt_decompose_core-r.auto.a, c.copy.auto.to) in
+    let diagonal : length c.ldlt_decompose_core-r.new.d ≡ x.n = omega (arith, c.ldlt_decompose_core-r.auto.d) in
+    rw (c.blank.ensures, c.blank-then-is_poor.ensures, factor, diagonal, ← c.copy.ensures)
+    (rw is-poor at settled)
+
+pub returns-else-is_poor : goal.returns-else-is_poor
+unfolding block_ldlt
+returns-else-is_poor c =
+    let x = c.args in
+    let fine = sym c.is_poor.ensures ∙ c.if-is_poor.false in
+    rw (← c.copy.ensures)
+    (rw fine at (ap (settle x.n) (rw c.in-Accepted.is at c.ldlt_decompose_core-r.ensures)))
+
+pub returns-in-NotFinite : goal.returns-in-NotFinite
+unfolding block_ldlt
+returns-in-NotFinite c =
+    let x = c.args in
+    rw (← c.copy.ensures)
+    (ap (settle x.n) (rw c.in-NotFinite.is at c.ldlt_decompose_core-r.ensures))

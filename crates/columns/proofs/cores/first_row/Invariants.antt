@@ -1,0 +1,17 @@
+-- `columns::cores::first_row` meets its contract: the search goes one column after the other. Assumes nothing.
+use Rattle.std.specs.Prelude.{◌≡◌, ℕ, ◌+◌, ◌-◌, ◌≤◌, Bool, length}
+use Prim.Native.Nat.{zero-le}
+use native.Mathlib.Omega.{arith}
+use borrow.Author.Rules.{rules}
+use Rattle.tables.specs.Search.{first}
+use Rattle.tables.specs.Verdict.{at, row_ok, row_fits}
+use Rattle.columns.specs.Least.{least_row}
+use Rattle.tables.proofs.SearchLaws.{Searched, searched, ended}
+use Rattle.tables.proofs.ColumnLaws.{column-failed, column-passed}
+use Rattle.columns.proofs.cores.first_row.Given as goal
+
+abbrev pub invariant-loop-j : goal.invariant-loop-j
+invariant-loop-j l = (l.j ≤ l.n) × Searched (row_fits (least_row l.least) l.starts l.rows l.n) 0 (length l.rows) (at l.starts l.j)
+
+abbrev pub decreases-loop-j : goal.decreases-loop-j
+decreases-loop-j l = l.n - l.j

@@ -1,0 +1,98 @@
+-- `contents::cores::first_offset` meets its contract: a search, one turn an entry, with the numbers of the bodies passed.
+-- Assumes nothing.
+use Rattle.std.specs.Prelude.{◌≡◌, ℕ, ◌+◌, ◌-◌, ◌*◌, ◌<◌, ◌≤◌, true, false, length}
+use Prim.Native.Nat.{zero-le}
+use mathlib.Core.Path.{refl, sym, ◌∙◌, ap}
+use native.Mathlib.Omega.{arith}
+use Rattle.tables.specs.Verdict.{at, area_at, block_area}
+use Rattle.tables.proofs.SearchLaws.{Searched, searched, passed, failed, ended}
+use Rattle.scalars.specs.Bodies.{offset_at}
+use Rattle.scalars.proofs.BodyLaws.{offset-first, offset-next}
+use Rattle.contents.specs.Contents.{starts_from, offset_fits}
+use Rattle.contents.proofs.Laws.{area-is, area_small, offset-hits, offset-misses}
+use borrow.Author.Rules.{rules}
+use Rattle.contents.proofs.cores.first_offset.Goals as goal
+
+pub loop-p-init : goal.loop-p-init
+loop-p-init c = (searched zero-le, sym (offset-first c.args.dims.now _ c.args.rows.now), zero-le)
+
+-- the sum so far is small
+small : (c : goal.After-wide) → c.loop-p.sum ≤ 4294967296
+small c = let t = c.requires.0 in omega (arith, c.loop-p.invariant.2, t.as_offsets, t.few)
+
+pub overflow_mul-sum : goal.overflow_mul-sum
+overflow_mul-sum c = omega (arith, small c)
+
+pub overflow_add-bodies : goal.overflow_add-bodies
+overflow_add-bodies c = omega (arith, small c, c.requires.1)
+
+pub returns-then-wide-bodies : goal.returns-then-wide-bodies
+returns-then-wide-bodies c =
+    let l = c.loop-p in
+    let x = c.args in
+    let w = c.wide in
+    failed l.invariant.0 {r = false} (omega arith)
+    (sym (offset-misses x.dims.now x.rows.now x.columns.now x.offsets.now x.bodies l.p (λ e. c.if-wide-bodies.true (w.ensures ∙ e ∙ ap (λ (s : ℕ). x.bodies + 8 * s) (sym l.invariant.1)))))
+    refl
+
+pub bounds-columns-p : goal.bounds-columns-p
+bounds-columns-p c = omega (arith, c.requires.0.as_offsets)
+
+-- the entry's column is a block
+column-below : (c : goal.After-wide-j) → c.wide-j.result < length c.args.dims.now
+column-below c =
+    let t = c.requires.0 in
+    let p = c.loop-p.p in
+    omega (arith, c.wide-j.ensures, t.sorted.below p (omega (arith, t.as_offsets)))
+
+pub offset_bounds-dims-j : goal.offset_bounds-dims-j
+offset_bounds-dims-j c = omega (arith, column-below c)
+
+column-below-2 : (c : goal.After-shared_slice_known-in-loop-p-3-1-unread) → c.wide-j.result < length c.args.dims.now
+column-below-2 c =
+    let t = c.requires.0 in
+    let p = c.loop-p.p in
+    omega (arith, c.wide-j.ensures, t.sorted.below p (omega (arith, t.as_offsets)))
+
+pub bounds-dims-j : goal.bounds-dims-j
+bounds-dims-j c = column-below-2 c
+
+pub block_area-sum-requires : goal.block_area-sum-requires
+block_area-sum-requires c =
+    let t = c.requires.0 in
+    let p = c.loop-p.p in
+    let in' : p < length c.args.rows.now = omega (arith, t.as_offsets, t.as_rows) in
+    (t.sizes, omega (arith, c.wide-in-loop-p.ensures, t.sizes.small c.wide-j.result), in', t.below p in')
+
+small-2 : (c : goal.After-block_area-sum) → c.loop-p.sum ≤ 4294967296
+small-2 c = let t = c.requires.0 in omega (arith, c.loop-p.invariant.2, t.as_offsets, t.few)
+
+-- the area that is added
+added : (c : goal.After-block_area-sum) → let x = c.args in c.block_area-sum.result ≡ area_at x.dims.now (starts_from x.columns.now (length x.dims.now)) x.rows.now c.loop-p.p
+added c =
+    let x = c.args in
+    let t = c.requires.0 in
+    let p = c.loop-p.p in
+    let d : c.wide-in-loop-p.result ≡ at x.dims.now (at x.columns.now p) = c.wide-in-loop-p.ensures ∙ ap (at x.dims.now) c.wide-j.ensures in
+    c.block_area-sum.ensures ∙ ap (λ (w : ℕ). block_area x.dims.now x.rows.now w p) d ∙ sym (area-is t p (omega (arith, t.as_offsets)))
+
+bounded : (c : goal.After-block_area-sum) → c.block_area-sum.result ≤ 256
+bounded c = let t = c.requires.0 in omega (arith, added c, area_small t c.loop-p.p (omega (arith, t.as_offsets)))
+
+pub overflow_add-sum : goal.overflow_add-sum
+overflow_add-sum c = omega (arith, bounded c, small-2 c)
+
+pub loop-p-preserved : goal.loop-p-preserved
+loop-p-preserved c =
+    let l = c.loop-p in
+    let x = c.args in
+    let w = c.wide in (
+      passed l.invariant.0 {r = true} (omega arith)
+          (sym (offset-hits x.dims.now x.rows.now x.columns.now x.offsets.now x.bodies l.p (sym w.ensures ∙ c.if-wide-bodies.false ∙ ap (λ (s : ℕ). x.bodies + 8 * s) l.invariant.1)))
+          refl,
+      omega (arith, added c, l.invariant.1, offset-next x.dims.now (starts_from x.columns.now (length x.dims.now)) x.rows.now l.p),
+      omega (arith, bounded c, l.invariant.2),
+    )
+
+pub returns : goal.returns
+returns c = ended c.loop-p.invariant.0 (omega arith)

@@ -1,0 +1,26 @@
+-- `digits::cores::put_decimal` meets its contract: as many digits as the number has. Assumes nothing.
+use Rattle.std.specs.Prelude.{◌≡◌, ℕ, ◌+◌, length}
+use mathlib.Core.Path.{sym, ap, ◌∙◌}
+use native.Mathlib.Omega.{arith}
+use Rattle.digits.specs.Digits.{digits, places, decimal, written}
+use Rattle.digits.proofs.Laws.{length_digits}
+use borrow.Author.Rules.{rules}
+use Rattle.digits.proofs.cores.put_decimal.Goals as goal
+
+-- how many digits there are
+count : (c : goal.After-spell-arg-1) → c.places-k.result ≡ length (decimal c.args.n)
+count c = c.places-k.ensures.0 ∙ sym (length_digits 10 (places c.args.n) c.args.n)
+
+pub spell-requires : goal.spell-requires
+spell-requires c = (omega arith, omega arith, omega (arith, count c, c.requires))
+
+count-2 : (c : goal.After-slice_known-2-1) → c.places-k.result ≡ length (decimal c.args.n)
+count-2 c = c.places-k.ensures.0 ∙ sym (length_digits 10 (places c.args.n) c.args.n)
+
+pub overflow_add-result : goal.overflow_add-result
+overflow_add-result c = omega (arith, count-2 c, c.requires)
+
+pub returns : goal.returns
+returns c =
+    let x = c.args in
+    record { next = ap (λ (k : ℕ). x.at + k) (count-2 c); text' = c.spell.ensures ∙ ap (λ (k : ℕ). written x.at (digits 10 k x.n) x.out.now) c.places-k.ensures.0 }

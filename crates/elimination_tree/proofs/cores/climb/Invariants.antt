@@ -1,0 +1,14 @@
+-- `elimination_tree::cores::climb` meets its contract. The invariant is `Walking`, and each answer names the law for its way. Assumes nothing.
+use Rattle.std.specs.Prelude.{◌-◌, ◌<◌, length}
+use mathlib.Core.Path.{◌∙◌}
+use native.Mathlib.Omega.{arith}
+use borrow.Author.Rules.{rules}
+use lib.ListN.{length-set}
+use Rattle.elimination_tree.proofs.Turns.{Walking, begins, turns, further, roots, ends, climbs-set}
+use Rattle.elimination_tree.proofs.cores.climb.Given as goal
+
+abbrev pub invariant-loop-i : goal.invariant-loop-i
+invariant-loop-i l = Walking l.j l.start l.initial.parent l.initial.ancestor l.parent l.ancestor l.i
+
+abbrev pub decreases-loop-i : goal.decreases-loop-i
+decreases-loop-i l = l.j - l.i

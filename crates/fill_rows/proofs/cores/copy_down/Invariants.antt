@@ -1,0 +1,12 @@
+-- `fill_rows::cores::copy_down` meets its contract. Assumes nothing.
+use Rattle.std.specs.Prelude.{◌≡◌, ◌-◌, ◌≤◌}
+use mathlib.Core.Logic.{inl, inr, ⊎_elim}
+use native.Mathlib.Omega.{arith}
+use Rattle.fill_rows.proofs.Copies.{Moving, move-begins, move-turns}
+use Rattle.fill_rows.proofs.cores.copy_down.Given as goal
+
+abbrev pub invariant-loop-t : goal.invariant-loop-t
+invariant-loop-t l = Moving l.initial.table l.from l.to l.table l.t × (l.t ≤ l.count)
+
+abbrev pub decreases-loop-t : goal.decreases-loop-t
+decreases-loop-t l = l.count - l.t

@@ -1,0 +1,23 @@
+-- `finish_column::cores::decompose_at` meets its contract: the lent parts are put back as the decomposition left them (`decomposes`). Assumes nothing.
+use Rattle.std.specs.Prelude.{◌+◌, ◌*◌}
+use mathlib.Core.Path.{◌∙◌}
+use native.Mathlib.Nat.{add-sub_cancel_left}
+use borrow.Author.Rules.{rules}
+use borrow.Rule.Slice.PartMut.{mid_len}
+use Rattle.tables.specs.Verdict.{at}
+use Rattle.finish_column.proofs.StepLaws.{decomposes}
+use Rattle.finish_column.proofs.cores.decompose_at.Goals as goal
+
+pub returns : goal.returns
+returns c =
+    let x = c.args in
+    let b = c.decompose_core in
+    let w = at x.sizes.now x.j in
+    let u = at x.unit_starts.now x.j in
+    let o = at x.d_starts.now x.j in
+    simp add-sub_cancel_left
+    (decomposes x.sizes.now x.places.now x.unit_starts.now x.d_starts.now x.j x.tol x.c.now x.diag.now x.d.now b.result b.new.l b.new.d
+    c.requires
+    (b.auto.l ∙ mid_len u (u + w * w) x.diag.now c.requires.unit ∙ add-sub_cancel_left _ _)
+    (b.auto.d ∙ mid_len o (o + w) x.d.now c.requires.of_d ∙ add-sub_cancel_left _ _)
+    (simp add-sub_cancel_left at b.ensures))

@@ -1,0 +1,16 @@
+-- `kernel_lower_transpose::cores::lower_transpose_matsolve_core` meets its contract: a turn changes one column, which lies in the block. Assumes nothing.
+use Rattle.std.specs.Prelude.{◌≡◌, ◌+◌, ◌-◌, ◌*◌, ◌≤◌, length}
+use native.Mathlib.Nat.{add-sub_cancel_left}
+use native.Mathlib.Omega.{arith}
+use borrow.Author.Rules.{rules}
+use Rattle.scalar.specs.Loop.{steps}
+use Rattle.scalar.specs.Block.{within}
+use Rattle.scalar.proofs.Laws.{steps_next, column, kernels}
+use Rattle.kernel_lower_transpose.specs.Transpose.{lower_transpose_solve, lower_transpose_matsolve}
+use Rattle.kernel_lower_transpose.proofs.cores.lower_transpose_matsolve_core.Given as goal
+
+abbrev pub invariant-loop-c : goal.invariant-loop-c
+invariant-loop-c l = (l.c ≤ l.nrhs) × (length l.y ≡ l.n * l.nrhs) × (l.y ≡ steps (λ c. within (c * l.n) l.n (lower_transpose_solve l.n l.l)) l.c l.initial.y)
+
+abbrev pub decreases-loop-c : goal.decreases-loop-c
+decreases-loop-c l = l.nrhs - l.c

@@ -1,0 +1,16 @@
+-- `kernel_right_transpose::lower_transpose_rightsolve_inplace` meets its contract: what the checks of the shapes say, then what the core does. Assumes nothing.
+use borrow.Author.Rules.{rules}
+use Rattle.refusal.proofs.Laws.{goes_on, answer-refused, answer-done}
+use Rattle.kernel_right.proofs.Shapes.{right-lengths}
+use Rattle.kernel_right_transpose.proofs.lower_transpose_rightsolve_inplace.Goals as goal
+
+pub returns-then-refused : goal.returns-then-refused
+returns-then-refused c = answer-refused _ _ _ c.right_shapes-s.ensures c.refused.ensures _ _ c.if-refused.true
+
+pub lower_transpose_rightsolve_core-requires : goal.lower_transpose_rightsolve_core-requires
+lower_transpose_rightsolve_core-requires c =
+    right-lengths _ _ _ _ (goes_on _ _ _ c.right_shapes-s.ensures c.refused.ensures c.if-refused.false)
+
+pub returns : goal.returns
+returns c =
+    answer-done _ _ _ c.right_shapes-s.ensures c.refused.ensures _ _ _ c.if-refused.false c.lower_transpose_rightsolve_core.ensures

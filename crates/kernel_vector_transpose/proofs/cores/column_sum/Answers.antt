@@ -1,0 +1,15 @@
+-- `kernel_vector_transpose::cores::column_sum` meets its contract: the invariant: how far the sum is. Assumes nothing.
+use Rattle.std.specs.Prelude.{◌≡◌, ◌-◌, ◌≤◌, get_or}
+use lib.Ieee.{nan}
+use borrow.Author.Rules.{rules}
+use Rattle.scalar.specs.Loop.{steps}
+use Rattle.scalar.specs.Block.{at, gain}
+use Rattle.scalar.specs.Scalar.{nought}
+use Rattle.scalar.proofs.Laws.{steps_next, kernels}
+use Rattle.kernel_vector_transpose.proofs.cores.column_sum.Goals as goal
+
+pub loop-r-preserved : goal.loop-r-preserved
+loop-r-preserved c = (search rules, steps_next _ _ _ _ _ c.loop-r.invariant.1 (cc))
+
+pub loop-r-init : goal.loop-r-init
+loop-r-init c = search kernels

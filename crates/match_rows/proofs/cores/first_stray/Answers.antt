@@ -1,0 +1,38 @@
+-- `match_rows::cores::first_stray` meets its contract: a search, one turn a column. Assumes nothing.
+use Rattle.std.specs.Prelude.{◌≡◌, ℕ, ◌-◌, ◌<◌, ◌≤◌, length}
+use Prim.Native.Nat.{zero-le}
+use mathlib.Core.Path.{refl}
+use native.Mathlib.Omega.{arith}
+use borrow.Author.Rules.{rules}
+use lib.ListN.{length-replicate, get_or-replicate}
+use Rattle.graph.specs.Links.{rows_in}
+use Rattle.tables.specs.Verdict.{at}
+use Rattle.tables.proofs.SearchLaws.{Searched, searched, passed, failed, ended}
+use Rattle.match_rows.specs.Rows.{given_in, column_given, Families}
+use Rattle.match_rows.proofs.cores.first_stray.Goals as goal
+
+pub link_children-requires : goal.link_children-requires
+link_children-requires c =
+    let s = c.requires in
+    record { n_bound = (s.order_len_bound.0, s.columns); head_value = (refl, length-replicate {A = ℕ} 4096 0) }
+
+pub loop-k-init : goal.loop-k-init
+loop-k-init c = (searched zero-le, c.link_children.ensures, length-replicate {A = ℕ} 4096 0, λ i h. omega (arith, get_or-replicate {A = ℕ} 4096 i 0 0 h))
+
+pub column_given-requires : goal.column_given-requires
+column_given-requires c =
+    let s = c.requires in
+    let l = c.loop-k in
+    record { order_len_bound = (s.order_len_bound.0, s.order_len_bound.1, s.order_len_bound.2); k_in_bounds = (c.loop-k-test.true, s.columns); families = (l.invariant.1, l.invariant.2, l.invariant.3) }
+
+pub returns-then-not-column_given : goal.returns-then-not-column_given
+returns-then-not-column_given c = failed c.loop-k.invariant.0 c.loop-k-test.true c.column_given.ensures.value c.if-not-column_given.true
+
+pub loop-k-preserved : goal.loop-k-preserved
+loop-k-preserved c =
+    let l = c.loop-k in
+    let e = c.column_given.ensures in
+    (passed l.invariant.0 c.loop-k-test.true e.value c.if-not-column_given.false, l.invariant.1, e.seen_len.0, e.seen_len.1)
+
+pub returns : goal.returns
+returns c = ended c.loop-k.invariant.0 (omega arith)

@@ -1,0 +1,104 @@
+-- `match_rows::cores::link_children` meets its contract: the lists of the columns before c are whole. Assumes nothing.
+use Rattle.std.specs.Prelude.{◌≡◌, ◌+◌, ◌-◌, ◌<◌, ◌≤◌}
+use Prim.Native.Nat.{zero-le}
+use native.Mathlib.Omega.{arith}
+use borrow.Author.Rules.{rules}
+use Rattle.graph.specs.Links.{rows_in}
+use Rattle.match_rows.specs.Rows.{Families}
+use Rattle.match_rows.proofs.HalvedLaws.{rises-of, heads-at, heads-none}
+use Rattle.match_rows.proofs.ChildLaws.{families-none, families_skip, families_next}
+use Rattle.tables.specs.Verdict.{at}
+use Rattle.match_rows.proofs.cores.link_children.Goals as goal
+use Rattle.match_rows.proofs.cores.link_children.Goals.{then-from-end, else-from-end}
+
+pub loop-c-init : goal.loop-c-init
+loop-c-init c =
+    let s = c.requires in
+    (zero-le, families-none _ _ s.head_value.0 s.head_value.1)
+
+pub bounds-l_starts-c : goal.bounds-l_starts-c
+bounds-l_starts-c c = omega (arith, c.requires.n_bound.1.ordered.entries)
+
+pub bounds-l_starts-c-in-loop-c : goal.bounds-l_starts-c-in-loop-c
+bounds-l_starts-c-in-loop-c c = omega (arith, c.requires.n_bound.1.ordered.entries)
+
+pub offset_bounds-l_rows-from : goal.offset_bounds-l_rows-from
+offset_bounds-l_rows-from c =
+    let o = c.requires.n_bound.1.ordered in
+    let k = c.loop-c.c in
+    omega (arith, c.wide-from.ensures, c.wide-end.ensures, o.inside (k + 1) (omega arith))
+
+pub bounds-l_rows-from : goal.bounds-l_rows-from
+bounds-l_rows-from c =
+    let o = c.requires.n_bound.1.ordered in
+    let k = c.loop-c.c in
+    omega (arith, c.wide-from.ensures, c.wide-end.ensures, o.inside (k + 1) (omega arith))
+
+-- the first row of column c is a block
+row_below : (c : goal.After-wide-k) → c.wide-k.result < 4096
+row_below c =
+    let s = c.requires in
+    let from = c.wide-from.ensures in
+    let end = c.wide-end.ensures in
+    let below = (s.n_bound.1.ranged c.loop-c.c c.wide-from.result (omega arith) (omega (arith, from)) (omega (arith, end, c.if-from-end.true))).1 in
+    omega (arith, c.wide-k.ensures, below, s.n_bound.0)
+
+pub offset_bounds-head-k : goal.offset_bounds-head-k
+offset_bounds-head-k c = omega (arith, row_below c)
+
+row_below-2 : (c : goal.After-way_told-1) → c.wide-k.result < 4096
+row_below-2 c =
+    let s = c.requires in
+    let from = c.wide-from.ensures in
+    let end = c.wide-end.ensures in
+    let below = (s.n_bound.1.ranged c.loop-c.c c.wide-from.result (omega arith) (omega (arith, from)) (omega (arith, end, c.if-from-end.true))).1 in
+    omega (arith, c.wide-k.ensures, below, s.n_bound.0)
+
+pub bounds-head-k : goal.bounds-head-k
+bounds-head-k c = row_below-2 c
+
+pub offset_bounds-sibling-c : goal.offset_bounds-sibling-c
+offset_bounds-sibling-c c = omega (arith, c.requires.n_bound.0)
+
+pub bounds-sibling-c : goal.bounds-sibling-c
+bounds-sibling-c c = omega (arith, c.requires.n_bound.0)
+
+pub overflow_cast-head : goal.overflow_cast-head
+overflow_cast-head c = omega (arith, c.requires.n_bound.0)
+
+row_below-3 : (c : goal.After-way_told-then-from-end-1) → c.wide-k.result < 4096
+row_below-3 c =
+    let s = c.requires in
+    let from = c.wide-from.ensures in
+    let end = c.wide-end.ensures in
+    let below = (s.n_bound.1.ranged c.loop-c.c c.wide-from.result (omega arith) (omega (arith, from)) (omega (arith, end, c.if-from-end.true))).1 in
+    omega (arith, c.wide-k.ensures, below, s.n_bound.0)
+
+pub offset_bounds-head-k-then-from-end : goal.offset_bounds-head-k-then-from-end
+offset_bounds-head-k-then-from-end c = omega (arith, row_below-3 c)
+
+pub bounds-head-k-then-from-end : goal.bounds-head-k-then-from-end
+bounds-head-k-then-from-end c = row_below-3 c
+
+pub loop-c-preserved : goal.loop-c-preserved
+loop-c-preserved c =
+    let l = c.loop-c in
+    let s = c.requires in
+    let a = c.args in
+    let from = c.wide-from.ensures in
+    let end = c.wide-end.ensures in
+    let rises = rises-of s.n_bound.1 l.c (omega arith) in
+    let starts = a.l_starts.now in
+    elim c.if-from-end.branch [
+      then-from-end w ↦
+        let some : at starts l.c < at starts (l.c + 1) = omega (arith, from, end, w.if-from-end.true) in
+        let below = (s.n_bound.1.ranged l.c (at starts l.c) (omega arith) (omega arith) some).1 in
+        rw (w.head-is, w.sibling-is) (omega arith, rw (w.wide-k.ensures, from) (families_next l.invariant.1 (at a.l_rows.now (at starts l.c)) (omega (arith, below, s.n_bound.0)) (omega (arith, s.n_bound.0)) (λ k. heads-at rises k some)))
+      | else-from-end w ↦ rw (w.head-is, w.sibling-is) (omega arith, families_skip l.invariant.1 (λ k. heads-none rises k (rw (from, end) at w.if-from-end.false)))
+    ]
+
+pub returns : goal.returns
+returns c =
+    let l = c.loop-c in
+    let z : l.c ≡ c.args.n = omega arith in
+    rw z at l.invariant.1

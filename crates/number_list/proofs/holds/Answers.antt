@@ -1,0 +1,24 @@
+-- `number_list::holds` meets its contract: the places passed hold x. Assumes nothing.
+use mathlib.Core.Path.{refl, sym, ◌∙◌}
+use native.Mathlib.Omega.{arith}
+use borrow.Author.Count.{below_more}
+use borrow.Author.Rules.{rules}
+use Rattle.word_list.proofs.Laws.{never}
+use Rattle.number_list.proofs.holds.Goals as goal
+
+pub returns-then-upto-a : goal.returns-then-upto-a
+returns-then-upto-a c = record { only = λ z. never z; also = λ h. absurd (omega arith) }
+
+pub loop-k-init : goal.loop-k-init
+loop-k-init c = (search rules, search rules, λ j h. absurd (omega arith))
+
+pub returns-then-not-same : goal.returns-then-not-same
+returns-then-not-same c = record { only = λ z. never z; also = λ h. sym (c.if-not-same.true) ∙ c.same.ensures.also (h.1 c.loop-k.k (omega arith)) }
+
+pub loop-k-preserved : goal.loop-k-preserved
+loop-k-preserved c =
+    let l = c.loop-k in
+    (search rules, search rules, below_more _ l.k l.invariant.2 (c.same.ensures.only (c.if-not-same.false)))
+
+pub returns : goal.returns
+returns c = record { only = λ z. (search rules, λ k h. c.loop-k.invariant.2 k (omega arith)); also = λ h. refl }

@@ -1,0 +1,14 @@
+-- `order::cores::invert` meets its contract. Assumes nothing.
+use Rattle.std.specs.Prelude.{◌≡◌, ℕ, ◌-◌, ◌<◌, ◌≤◌, length, get_or}
+use mathlib.Core.Path.{sym, subst, ◌∙◌}
+use native.Mathlib.Omega.{arith}
+use borrow.Author.Rules.{rules}
+use lib.ListN.{length-set}
+use Rattle.order.proofs.Laws.{below_at, inverse-turn, inverse-of}
+use Rattle.order.proofs.cores.invert.Given as goal
+
+abbrev pub invariant-loop-k : goal.invariant-loop-k
+invariant-loop-k l = (l.k ≤ length l.initial.inverse) × (length l.inverse ≡ length l.initial.inverse) × ((i : ℕ) → i < l.k → get_or l.inverse (get_or l.order i 0) 0 ≡ i)
+
+abbrev pub decreases-loop-k : goal.decreases-loop-k
+decreases-loop-k l = length l.order - l.k

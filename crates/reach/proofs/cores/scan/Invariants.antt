@@ -1,0 +1,18 @@
+-- `reach::cores::scan` meets its contract. The invariants are the records of `Turns`, and each answer names the law for its way through the code.
+-- Assumes nothing.
+use Rattle.std.proofs.Common.{◌≡◌, ℕ, ◌+◌, ◌-◌, ◌<◌, ◌≤◌, List, ◌++◌, length, get_or, take, drop, set, sym, refl, ap, ◌∙◌, ⊎_elim, arith, length-drop, length-set, take-append-drop}
+use Rattle.reach.specs.Reach.{State, reached}
+use Rattle.reach.proofs.Turns.{Climbing, Climbed, Scanning, place, climb-begins, climb-turns, climb-stops, climb-roots, scan_begins, scan-climbs, scan-skips, scan-ends}
+use Rattle.reach.proofs.cores.scan.Given as goal
+
+abbrev pub invariant-climb : goal.invariant-climb
+invariant-climb l = Climbing l.parent l.mark l.initial.stamp l.initial.out l.initial.top l.initial.i l.stamp l.out l.top l.i
+
+abbrev pub decreases-climb : goal.decreases-climb
+decreases-climb l = l.top
+
+abbrev pub invariant-loop-q : goal.invariant-loop-q
+invariant-loop-q l = Scanning l.parent l.rows l.j l.mark l.initial.stamp l.initial.out l.stamp l.out l.top l.q
+
+abbrev pub decreases-loop-q : goal.decreases-loop-q
+decreases-loop-q l = length l.rows - l.q

@@ -1,0 +1,52 @@
+-- `render::cores::put_lines` meets its contract: the lines passed are written. Assumes nothing.
+use Rattle.std.specs.Prelude.{◌≡◌, ℕ, ◌+◌, ◌-◌, ◌≤◌, List, ◌++◌, length, get_or}
+use Prim.Native.Nat.{zero-le}
+use mathlib.Core.Path.{refl, sym, ap, subst}
+use native.Mathlib.Omega.{arith}
+use lib.Ieee.{nan}
+use Rattle.digits.specs.Digits.{Puts}
+use Rattle.render.specs.Lines.{lines, scalar_line}
+use Rattle.render.proofs.Laws.{fits_next, puts-room, puts-next, puts_none, lines_next, lines-le}
+use borrow.Author.Rules.{rules}
+use Rattle.render.proofs.cores.put_lines.Goals as goal
+
+pub loop-k-init : goal.loop-k-init
+loop-k-init c = (zero-le, refl, puts_none c.args.x.now c.args.marks.now c.args.at c.args.out.now)
+
+-- the next line has the room
+room : (c : goal.After-shared_slice_known-in-loop-k-2-1) → let k = c.loop-k.k in c.args.at + length (lines c.args.x.now c.args.marks.now k ++ scalar_line k (get_or c.args.x.now k nan) (get_or c.args.marks.now k 0)) ≤ length c.args.out.now
+room c =
+    let k = c.loop-k.k in
+    let x = c.args.x.now in
+    let marks = c.args.marks.now in
+    omega (arith, ap length (lines_next x marks k), lines-le x marks (k + 1) (length x) (omega arith), c.requires.1)
+
+pub scalar_line-next-requires : goal.scalar_line-next-requires
+scalar_line-next-requires c =
+    let k = c.loop-k.k in
+    let x = c.args.x.now in
+    let marks = c.args.marks.now in
+    let line = scalar_line k (get_or x k nan) (get_or marks k 0) in
+    puts-room line c.loop-k.invariant.2 (fits_next _ _ (lines x marks k) line (room c))
+
+room-2 : (c : goal.After-slice_known-in-loop-k-1) → let k = c.loop-k.k in c.args.at + length (lines c.args.x.now c.args.marks.now k ++ scalar_line k (get_or c.args.x.now k nan) (get_or c.args.marks.now k 0)) ≤ length c.args.out.now
+room-2 c =
+    let k = c.loop-k.k in
+    let x = c.args.x.now in
+    let marks = c.args.marks.now in
+    omega (arith, ap length (lines_next x marks k), lines-le x marks (k + 1) (length x) (omega arith), c.requires.1)
+
+pub loop-k-preserved : goal.loop-k-preserved
+loop-k-preserved c =
+    let l = c.loop-k in
+    let x = c.args.x.now in
+    let marks = c.args.marks.now in
+    let line = scalar_line l.k (get_or x l.k nan) (get_or marks l.k 0) in
+    let p = puts-next line l.invariant.2 c.scalar_line-next.ensures (room-2 c) in
+    (omega arith, omega (arith, c.scalar_line-next.auto.out, l.invariant.1), subst (λ (t : List ℕ). Puts c.args.at t c.args.out.now c.scalar_line-next.result c.scalar_line-next.new.out) (sym (lines_next x marks l.k)) p)
+
+pub returns : goal.returns
+returns c =
+    let l = c.loop-k in
+    let e : l.k ≡ length c.args.x.now = omega arith in
+    subst (λ (k : ℕ). Puts c.args.at (lines c.args.x.now c.args.marks.now k) c.args.out.now l.next l.out) e l.invariant.2

@@ -1,0 +1,17 @@
+-- `right_side::cores::permute` meets its contract: the invariant: the first numbers are written. Assumes nothing.
+use Rattle.std.specs.Prelude.{◌≡◌, ◌-◌, ◌<◌, ◌≤◌, length}
+use mathlib.Core.Path.{refl, sym, subst, ◌∙◌}
+use native.Mathlib.Omega.{arith}
+use borrow.Author.Rules.{rules}
+use Rattle.order.proofs.Laws.{below_at}
+use Rattle.tables.specs.Verdict.{at}
+use Rattle.scalars.proofs.Filling.{Filled, filled_none, filled_all}
+use Rattle.solution.specs.Solution.{permuted}
+use Rattle.solution.proofs.EdgeLaws.{permuted-length, permuted-turn}
+use Rattle.right_side.proofs.cores.permute.Given as goal
+
+abbrev pub invariant-loop-new : goal.invariant-loop-new
+invariant-loop-new l = (l.new-end ≡ length l.perm) × (l.new ≤ length l.perm) × Filled (permuted l.perm l.b) l.y l.new
+
+abbrev pub decreases-loop-new : goal.decreases-loop-new
+decreases-loop-new l = length l.perm - l.new

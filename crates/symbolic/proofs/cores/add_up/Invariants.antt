@@ -1,0 +1,13 @@
+-- `symbolic::cores::add_up` meets its contract: two sums, one turn a column. Assumes nothing.
+use Rattle.std.specs.Prelude.{ℕ, ◌+◌, ◌-◌, ◌*◌, length, get_or}
+use mathlib.Core.Path.{sym, subst}
+use native.Mathlib.Omega.{arith}
+use borrow.Author.Rules.{rules}
+use Rattle.symbolic.proofs.Numbers.{Totalled, total-begins, total-turns, total-ends, products-le, half_le}
+use Rattle.symbolic.proofs.cores.add_up.Given as goal
+
+abbrev pub invariant-loop-k : goal.invariant-loop-k
+invariant-loop-k l = Totalled l.count l.stored l.products l.k
+
+abbrev pub decreases-loop-k : goal.decreases-loop-k
+decreases-loop-k l = length l.count - l.k

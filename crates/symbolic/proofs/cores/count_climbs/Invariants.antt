@@ -1,0 +1,20 @@
+-- `symbolic::cores::count_climbs` meets its contract. The invariants are the records of `Climbs`, and each answer names the law for its way through the code.
+-- Assumes nothing.
+use Rattle.std.specs.Prelude.{◌≡◌, ℕ, ◌-◌, ◌<◌, ◌≤◌, List, [], ◌∷◌, reverse, length, get_or, set}
+use mathlib.Core.Path.{refl, sym, ap, ◌∙◌}
+use mathlib.Core.Logic.{⊎_elim}
+use native.Mathlib.Omega.{arith}
+use Rattle.symbolic.proofs.Climbs.{Climbing, Scanning, Counted, CountClimb, bumps-length, goes-up, climb-stops, climb-roots, scan_begins, scan-skips, scan-climbs, scan-ends, room-here, counted_none, counted-one, count-climb-begins, count-climb-turns}
+use Rattle.symbolic.proofs.cores.count_climbs.Given as goal
+
+abbrev pub invariant-climb : goal.invariant-climb
+invariant-climb l = CountClimb l.parent l.sizes l.mark l.initial.stamp l.initial.count l.initial.total l.initial.at l.stamp l.count l.total l.at
+
+abbrev pub decreases-climb : goal.decreases-climb
+decreases-climb l = length l.parent - l.at
+
+abbrev pub invariant-loop-q : goal.invariant-loop-q
+invariant-loop-q l = (found : List ℕ) × Scanning l.parent l.rows l.j l.mark l.initial.stamp l.q l.stamp found × Counted l.sizes l.initial.count found l.count l.total
+
+abbrev pub decreases-loop-q : goal.decreases-loop-q
+decreases-loop-q l = length l.rows - l.q

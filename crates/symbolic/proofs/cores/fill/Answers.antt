@@ -1,0 +1,88 @@
+-- `symbolic::cores::fill` meets its contract: the table holds the columns made so far. Assumes nothing.
+use Rattle.std.specs.Prelude.{◌≡◌, ℕ, ◌+◌, ◌-◌, length, get_or, take, drop, replicate}
+use mathlib.Core.Path.{refl, sym, ap, ◌∙◌}
+use native.Mathlib.Omega.{arith}
+use borrow.Author.Rules.{rules}
+use lib.ListN.{length-set}
+use Rattle.graph.proofs.SymbolicLaws.{columns_length}
+use Rattle.buckets.proofs.Lists.{part_slice}
+use Rattle.elimination_tree.specs.Tree.{linked_up}
+use Rattle.symbolic.proofs.Walks.{tree-rule}
+use Rattle.symbolic.proofs.Passes.{Filling, fill_begins, fill_asks, fill_turns, fill_ends}
+use Rattle.symbolic.proofs.cores.fill.Goals as goal
+
+pub copy-requires : goal.copy-requires
+copy-requires c =
+    let n = length c.args.parent.now in
+    omega (arith, columns_length (linked_up c.args.starts.now c.args.rows.now) n n, c.requires.laid.count, c.requires.stamp_len.2)
+
+pub loop-j-init : goal.loop-j-init
+loop-j-init c =
+    let one = c.fill in
+    let two = c.copy in
+    let n = length c.args.parent.now in (
+      fill_begins c.args.starts.now c.args.rows.now n c.args.parent.now c.args.l_starts.now one.new.s two.new.to c.args.l_rows.now c.requires.tree
+          (one.ensures ∙ ap (λ (m : ℕ). replicate m 0) c.requires.stamp_len.0) c.requires.laid (two.ensures ∙ ap (λ (m : ℕ). take m c.args.l_starts.now) c.requires.stamp_len.2),
+      refl,
+      refl,
+    )
+
+pub overflow_cast-from : goal.overflow_cast-from
+overflow_cast-from c = omega (arith, c.shared_slice_known-in-loop-j-1.given c.loop-j.j)
+
+pub overflow_cast-to : goal.overflow_cast-to
+overflow_cast-to c = omega (arith, c.shared_slice_known-in-loop-j-2-1.given (c.loop-j.j + 1))
+
+pub offset_bounds-rows-from : goal.offset_bounds-rows-from
+offset_bounds-rows-from c = omega (arith, c.shared_slice_known-in-loop-j-1.given c.loop-j.j)
+
+pub slice_bounds-store_climbs-count : goal.slice_bounds-store_climbs-count
+slice_bounds-store_climbs-count c = c.loop-j.invariant.0.tree.pattern.rising c.loop-j.j c.loop-j-test.true
+
+pub slice_bounds-store_climbs-start : goal.slice_bounds-store_climbs-start
+slice_bounds-store_climbs-start c = c.loop-j.invariant.0.tree.pattern.rising c.loop-j.j c.loop-j-test.true
+
+pub slice_bounds-store_climbs-end : goal.slice_bounds-store_climbs-end
+slice_bounds-store_climbs-end c = c.loop-j.invariant.0.tree.pattern.inside (c.loop-j.j + 1) (omega (arith, c.loop-j-test.true))
+
+pub store_climbs-requires : goal.store_climbs-requires
+store_climbs-requires c =
+    let v = c.loop-j in
+    let g = v.invariant.0 in
+    let taken = c.loop-j-test.true in
+    let starts = c.args.starts.now in
+    let rows = c.args.rows.now in
+    let parent = c.args.parent.now in
+    let part = take (get_or starts (v.j + 1) 0 - get_or starts v.j 0) (drop (get_or starts v.j 0) rows) in
+    let lent = part_slice rows (get_or starts v.j 0) (get_or starts (v.j + 1) 0) in record { parents = (tree-rule starts rows (length parent) g.tree.pattern.few g.tree.ascends parent g.tree.liu, taken, g.small); stamp_len = (length-set v.stamp v.j (v.j + 1) ∙ g.stamps, g.held.counts); roomy = fill_asks starts rows (length parent) parent c.args.l_starts.now v.stamp v.next v.l_rows v.j g taken part lent }
+
+pub loop-j-preserved : goal.loop-j-preserved
+loop-j-preserved c =
+    let v = c.loop-j in
+    let call = c.store_climbs in
+    let g = v.invariant.0 in
+    let taken = c.loop-j-test.true in
+    let starts = c.args.starts.now in
+    let rows = c.args.rows.now in
+    let parent = c.args.parent.now in
+    let part = take (get_or starts (v.j + 1) 0 - get_or starts v.j 0) (drop (get_or starts v.j 0) rows) in
+    let lent = part_slice rows (get_or starts v.j 0) (get_or starts (v.j + 1) 0) in (
+      fill_turns starts rows (length parent) parent c.args.l_starts.now v.stamp v.next v.l_rows v.j g taken part lent
+          call.new.stamp call.new.next call.new.table (call.auto.stamp ∙ length-set v.stamp v.j (v.j + 1) ∙ g.stamps) call.auto.table call.ensures.stamp_after call.ensures.next_after call.ensures.table_after,
+      refl,
+      call.auto.table ∙ v.invariant.2,
+    )
+
+pub shape_of-stamp : goal.shape_of-stamp
+shape_of-stamp c = c.loop-j.invariant.0.stamps ∙ sym c.requires.stamp_len.0
+
+pub shape_of-next : goal.shape_of-next
+shape_of-next c = c.loop-j.invariant.0.held.counts ∙ sym c.requires.stamp_len.2
+
+pub shape_of-l_rows : goal.shape_of-l_rows
+shape_of-l_rows c = c.loop-j.invariant.2
+
+pub returns : goal.returns
+returns c =
+    let v = c.loop-j in
+    fill_ends c.args.starts.now c.args.rows.now (length c.args.parent.now) c.args.parent.now c.args.l_starts.now v.stamp v.next v.l_rows v.j v.invariant.0 c.loop-j-test.false

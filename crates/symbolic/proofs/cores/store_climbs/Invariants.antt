@@ -1,0 +1,20 @@
+-- `symbolic::cores::store_climbs` meets its contract. The invariants are the records of `Climbs`, and each answer names the law for its way through the code.
+-- Assumes nothing.
+use Rattle.std.specs.Prelude.{◌≡◌, ℕ, ◌-◌, ◌<◌, List, [], ◌∷◌, reverse, length, get_or, set}
+use mathlib.Core.Path.{refl, sym, ap, ◌∙◌}
+use mathlib.Core.Logic.{⊎_elim}
+use native.Mathlib.Omega.{arith}
+use Rattle.symbolic.proofs.Climbs.{Scanning, Stored, StoreClimb, bumps-length, stores-length, goes-up, climb-stops, climb-roots, scan_begins, scan-skips, scan-climbs, scan-ends, room-here, stored-none, stored_one, store-climb-begins, store-climb-turns}
+use Rattle.symbolic.proofs.cores.store_climbs.Given as goal
+
+abbrev pub invariant-climb : goal.invariant-climb
+invariant-climb l = StoreClimb l.parent l.j l.mark l.initial.stamp l.initial.next l.initial.table l.initial.at l.stamp l.next l.table l.at
+
+abbrev pub decreases-climb : goal.decreases-climb
+decreases-climb l = length l.parent - l.at
+
+abbrev pub invariant-loop-q : goal.invariant-loop-q
+invariant-loop-q l = (found : List ℕ) × Scanning l.parent l.rows l.j l.mark l.initial.stamp l.q l.stamp found × Stored l.j l.initial.next l.initial.table found l.next l.table
+
+abbrev pub decreases-loop-q : goal.decreases-loop-q
+decreases-loop-q l = length l.rows - l.q

@@ -1,0 +1,31 @@
+-- `tables::cores::first_start` meets its contract: a search, one turn a place. Assumes nothing.
+use Rattle.std.specs.Prelude.{◌+◌, ◌-◌}
+use Prim.Native.Nat.{zero-le}
+use native.Mathlib.Omega.{arith}
+use Rattle.tables.specs.Verdict.{start_ok}
+use Rattle.tables.proofs.SearchLaws.{Searched, searched, passed, failed, ended}
+use Rattle.tables.proofs.cores.first_start.Goals as goal
+
+pub loop-i-init : goal.loop-i-init
+loop-i-init c = searched (zero-le)
+
+pub returns-then-not-start_ok : goal.returns-then-not-start_ok
+returns-then-not-start_ok c = failed c.loop-i.invariant (omega arith) c.start_ok.ensures c.if-not-start_ok.true
+
+pub loop-i-preserved : goal.loop-i-preserved
+loop-i-preserved c = passed c.loop-i.invariant (omega arith) c.start_ok.ensures c.if-not-start_ok.false
+
+pub returns : goal.returns
+returns c = ended c.loop-i.invariant (omega arith)
+
+pub overflow_add-n : goal.overflow_add-n
+overflow_add-n c = omega arith
+
+pub start_ok-requires : goal.start_ok-requires
+start_ok-requires c = tt
+
+pub overflow_add-i : goal.overflow_add-i
+overflow_add-i c = omega arith
+
+pub loop-i-smaller : goal.loop-i-smaller
+loop-i-smaller c = omega arith

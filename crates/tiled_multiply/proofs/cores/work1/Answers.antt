@@ -1,0 +1,49 @@
+-- `tiled_multiply::cores::work1` meets its contract. Assumes nothing.
+use Rattle.std.specs.Prelude.{◌≡◌, ◌-◌, ◌≤◌}
+use native.Mathlib.Omega.{arith}
+use borrow.Author.Rules.{rules}
+use Rattle.scalar.proofs.Laws.{steps-none, steps_next, kernels}
+use Rattle.tiled_multiply.specs.Made.{made_three}
+use Rattle.tiled_multiply.proofs.cores.work1.Goals as goal
+
+pub entry-requires : goal.entry-requires
+entry-requires c = search kernels
+
+pub across-requires : goal.across-requires
+across-requires c = search kernels
+
+pub first-s-requires : goal.first-s-requires
+first-s-requires c = search kernels
+
+pub overflow_sub-more : goal.overflow_sub-more
+overflow_sub-more c = search kernels
+
+pub loop-t-init : goal.loop-t-init
+loop-t-init c = (search rules, steps-none _ _ _ (rw (c.first-s.ensures, c.across.ensures, c.entry.ensures)))
+
+pub overflow_add-t : goal.overflow_add-t
+overflow_add-t c = search kernels
+
+pub across-by-requires : goal.across-by-requires
+across-by-requires c = search kernels
+
+pub overflow_add-t-in-loop-t : goal.overflow_add-t-in-loop-t
+overflow_add-t-in-loop-t c = search kernels
+
+pub entry-requires-in-loop-t : goal.entry-requires-in-loop-t
+entry-requires-in-loop-t c = search kernels
+
+pub gained-s-requires : goal.gained-s-requires
+gained-s-requires c = search kernels
+
+pub overflow_step-t : goal.overflow_step-t
+overflow_step-t c = omega (arith, c.loop-t-test.true, c.ranges.m)
+
+pub loop-t-smaller : goal.loop-t-smaller
+loop-t-smaller c = search kernels
+
+pub loop-t-preserved : goal.loop-t-preserved
+loop-t-preserved c = (search rules, steps_next _ _ _ _ _ c.loop-t.invariant.1 (rw (c.gained-s.ensures, c.entry-in-loop-t.ensures, c.across-by.ensures)))
+
+pub returns : goal.returns
+returns c = search kernels

@@ -1,0 +1,13 @@
+-- `tiled_multiply::cores::work4` meets its contract. Assumes nothing.
+use Rattle.std.specs.Prelude.{◌≡◌, ◌-◌, ◌≤◌}
+use native.Mathlib.Omega.{arith}
+use borrow.Author.Rules.{rules}
+use Rattle.scalar.proofs.Laws.{steps-none, steps_next, kernels}
+use Rattle.tiled_multiply.specs.Made.{made_twelve}
+use Rattle.tiled_multiply.proofs.cores.work4.Given as goal
+
+abbrev pub invariant-loop-t : goal.invariant-loop-t
+invariant-loop-t l = (l.t ≤ l.more) × (l.s ≡ made_twelve l.h l.m l.a l.b l.j0 l.j1 l.j2 l.i l.t)
+
+abbrev pub decreases-loop-t : goal.decreases-loop-t
+decreases-loop-t l = l.more - l.t

@@ -1,0 +1,6 @@
+-- `tiled_right::cores::four_at` meets its contract. Assumes nothing.
+use borrow.Author.Rules.{rules}
+use Rattle.tiled_right.proofs.cores.four_at.Goals as goal
+
+pub returns : goal.returns
+returns c = rw (c.three_at.ensures, c.entry.ensures)

@@ -1,0 +1,6 @@
+-- `tiled_vector::cores::gain4` meets its contract. Assumes nothing.
+use borrow.Author.Rules.{rules}
+use Rattle.tiled_vector.proofs.cores.gain4.Goals as goal
+
+pub returns : goal.returns
+returns c = rw c.gain3.ensures

@@ -1,0 +1,6 @@
+-- `tiled_vector::cores::less3` meets its contract. Assumes nothing.
+use borrow.Author.Rules.{rules}
+use Rattle.tiled_vector.proofs.cores.less3.Goals as goal
+
+pub returns : goal.returns
+returns c = rw (c.less1-3.ensures, c.less1-2.ensures, c.less1.ensures)

@@ -1,0 +1,35 @@
+-- `tiled_vector::cores::sub_columns` meets its contract: the invariant: how many numbers have lost their sums. Assumes nothing.
+use Rattle.std.specs.Prelude.{◌≡◌, ◌-◌, ◌≤◌, length}
+use mathlib.Core.Logic.{inr}
+use mathlib.Core.Path.{refl}
+use borrow.Author.Rules.{rules}
+use Rattle.scalar.specs.Block.{within}
+use Rattle.kernel_vector_transpose.specs.VectorTranspose.{column_sum, sub_mat_transpose_plus_vec}
+use Rattle.block_product.specs.Working.{slot}
+use Rattle.tiled_vector.specs.TiledVector.{each_less}
+use Rattle.tiled_vector.proofs.Parts.{part_none, part-one, part-three, part-all}
+use Rattle.tiled_vector.proofs.cores.sub_columns.Goals as goal
+
+pub loop-c-init : goal.loop-c-init
+loop-c-init c =
+    let x = c.args in
+    (search rules, refl, part_none x.s x.w x.y.now (search rules) x.t x.h (inr (search rules)) (column_sum x.h x.a.now))
+
+pub loop-c-preserved-then-w-c-lt3 : goal.loop-c-preserved-then-w-c-lt3
+loop-c-preserved-then-w-c-lt3 c =
+    let x = c.args in
+    let l = c.loop-c in
+    (search rules, search rules, part-one x.s x.w x.y.now (search rules) x.t x.h (inr (search rules)) (column_sum x.h x.a.now) l.c l.y _ l.invariant.2 c.column.ensures)
+
+pub loop-c-preserved : goal.loop-c-preserved
+loop-c-preserved c =
+    let x = c.args in
+    let l = c.loop-c in
+    (search rules, search rules, part-three x.s x.w x.y.now (search rules) x.t x.h (inr (search rules)) (column_sum x.h x.a.now) l.c l.y _ l.invariant.2 c.columns3.ensures)
+
+pub returns : goal.returns
+unfolding sub_mat_transpose_plus_vec
+returns c =
+    let x = c.args in
+    let l = c.loop-c in
+    part-all x.s x.w x.y.now (search rules) x.t x.h (inr (search rules)) (column_sum x.h x.a.now) l.c l.y (search rules) (search rules) l.invariant.2

@@ -1,0 +1,41 @@
+-- `tiled_vector::cores::sub_rows` meets its contract: the invariant: how many numbers have lost their sums. Assumes nothing.
+use Rattle.std.specs.Prelude.{◌≡◌, ◌-◌, ◌≤◌, length}
+use mathlib.Core.Logic.{inl}
+use mathlib.Core.Path.{refl}
+use borrow.Author.Rules.{rules}
+use Rattle.scalar.specs.Block.{within}
+use Rattle.kernel_vector.specs.Vector.{row_sum, sub_mat_plus_vec}
+use Rattle.block_product.specs.Working.{slot}
+use Rattle.tiled_vector.specs.TiledVector.{each_less}
+use Rattle.tiled_vector.proofs.Parts.{part_none, part-one, part-three, part-four, part-all}
+use Rattle.tiled_vector.proofs.cores.sub_rows.Goals as goal
+
+pub loop-r-init : goal.loop-r-init
+loop-r-init c =
+    let x = c.args in
+    (search rules, refl, part_none x.t x.h x.y.now (search rules) x.s x.w (inl (search rules)) (row_sum x.h x.w x.a.now))
+
+pub loop-r-preserved-then-tile-eq4 : goal.loop-r-preserved-then-tile-eq4
+loop-r-preserved-then-tile-eq4 c =
+    let x = c.args in
+    let l = c.loop-r in
+    (search rules, search rules, part-four x.t x.h x.y.now (search rules) x.s x.w (inl (search rules)) (row_sum x.h x.w x.a.now) l.r l.y _ l.invariant.2 c.rows4.ensures)
+
+pub loop-r-preserved-then-tile-eq3 : goal.loop-r-preserved-then-tile-eq3
+loop-r-preserved-then-tile-eq3 c =
+    let x = c.args in
+    let l = c.loop-r in
+    (search rules, search rules, part-three x.t x.h x.y.now (search rules) x.s x.w (inl (search rules)) (row_sum x.h x.w x.a.now) l.r l.y _ l.invariant.2 c.rows3.ensures)
+
+pub loop-r-preserved : goal.loop-r-preserved
+loop-r-preserved c =
+    let x = c.args in
+    let l = c.loop-r in
+    (search rules, search rules, part-one x.t x.h x.y.now (search rules) x.s x.w (inl (search rules)) (row_sum x.h x.w x.a.now) l.r l.y _ l.invariant.2 c.row.ensures)
+
+pub returns : goal.returns
+unfolding sub_mat_plus_vec
+returns c =
+    let x = c.args in
+    let l = c.loop-r in
+    part-all x.t x.h x.y.now (search rules) x.s x.w (inl (search rules)) (row_sum x.h x.w x.a.now) l.r l.y (search rules) (search rules) l.invariant.2
