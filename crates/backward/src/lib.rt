@@ -1,2 +1,4 @@
 // The backward part of the solve: Lᵀ x = z, columns descending.
+#![tactic(auto)]
+
 pub mod cores;

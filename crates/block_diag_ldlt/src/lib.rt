@@ -1,4 +1,6 @@
 // One block of the diagonal, of block_diag_ldlt.rs, decomposed. Here a dimension 0 is refused.
+#![tactic(auto)]
+
 pub mod cores;
 
 ghost use Rattle.std.specs.Prelude.{◌≡◌};

@@ -1,4 +1,6 @@
 // Solves with one decomposed block A = L D Lᵀ of the diagonal, of block_diag_ldlt.rs. Here a dimension 0 is refused.
+#![tactic(auto)]
+
 ghost use Rattle.std.specs.Prelude.{length};
 ghost use Rattle.refusal.specs.Shaped.{Answers};
 ghost use Rattle.dense_solve.specs.Solve.{ldlt_solve, solve_verdict};

@@ -1,5 +1,7 @@
 // One block for callers in C and Rust: its decompositions, its solves and the product that a factorization spends its time in.
 // In each call a slice is a pointer and a length, and the answer is document 01's number, 0 where the call is accepted.
+#![tactic(auto)]
+
 ghost use Rattle.std.specs.Prelude.{◌≡◌, length};
 ghost use Rattle.refusal.specs.Refusal.{number};
 ghost use Rattle.dense_ldlt.specs.Decompose as dense;

@@ -1,6 +1,8 @@
 // The checks of the tables of a system, of what its plan is made from, and of a factor, 1 to 10 of document 01, on any input
 // whatever: accepted, or the refusal with the lowest number, at its first place. No table is read by the column starts before
 // these have passed.
+#![tactic(auto)]
+
 ghost use Rattle.std.specs.Prelude.{◌≡◌};
 ghost use Rattle.tables.specs.Verdict.{system_verdict, plan_verdict, factor_verdict};
 ghost use Rattle.checks.specs.Outcome.{told_system, told_plan, told_factor};

@@ -1,2 +1,4 @@
 // The block products of a column by one that reaches it.
+#![tactic(auto)]
+
 pub mod cores;

@@ -1,4 +1,6 @@
 // The LDLᵀ decomposition of one dense block, in place, of dense_ldlt.rs.
+#![tactic(auto)]
+
 pub mod cores;
 
 ghost use Rattle.std.specs.Prelude.{◌≡◌};

@@ -1,4 +1,6 @@
 // The account of the stored pivots of a dense block, and the record that it ends in, of dense_ldlt.rs.
+#![tactic(auto)]
+
 pub mod cores;
 
 // What the stored pivots say of a block.

@@ -1,4 +1,6 @@
 // Solves with a decomposed block from the left, of dense_ldlt.rs: A below stands for L D Lᵀ, and its inverse for the kernels' solves in turn.
+#![tactic(auto)]
+
 pub mod cores;
 
 ghost use Rattle.std.specs.Prelude.{◌≡◌, length};

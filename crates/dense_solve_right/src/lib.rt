@@ -1,5 +1,7 @@
 // The solve with a decomposed block from the right, of dense_ldlt.rs: A below stands for L D Lᵀ, and its inverse for the kernels' solves
 // in turn.
+#![tactic(auto)]
+
 pub mod cores;
 
 ghost use Rattle.std.specs.Prelude.{length};

@@ -1,2 +1,4 @@
 // Bytes, decimal and hexadecimal numbers written into a lent buffer.
+#![tactic(auto)]
+
 pub mod cores;

@@ -1,4 +1,6 @@
 // The elimination tree of an upper pattern, of elimination_tree.rs: Liu's algorithm with path compression.
+#![tactic(auto)]
+
 pub mod cores;
 
 ghost use Rattle.std.specs.Prelude.{length};

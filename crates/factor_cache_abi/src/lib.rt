@@ -1,5 +1,7 @@
 // The factorization of a night with a cache lent, for callers in C and Rust. A slice is a pointer and a length, and the answer is document
 // 01's number, 0 where the call is accepted.
+#![tactic(auto)]
+
 ghost use Rattle.factor_setup.specs.Exact.{system};
 ghost use Rattle.factor_core.specs.Factorize.{lent};
 ghost use Rattle.factor_cache_abi.specs.Number.{ExportsWithCache};

@@ -1,2 +1,4 @@
 // The factorization in exact buffers with its scratch cleared: all that is promised.
+#![tactic(auto)]
+
 pub mod cores;

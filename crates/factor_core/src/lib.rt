@@ -1,4 +1,6 @@
 // The outcome of a factorization, the whole promise of it, and the needs that only the plan shows.
+#![tactic(auto)]
+
 pub mod cores;
 
 use analysis::cores::Counts;

@@ -1,2 +1,4 @@
 // The plan, the needs that only the plan shows, the outputs.
+#![tactic(auto)]
+
 pub mod cores;

@@ -1,2 +1,4 @@
 // The factorization in the first places of longer buffers.
+#![tactic(auto)]
+
 pub mod cores;

@@ -1,4 +1,6 @@
 // The report of an exported factorization: the number of its outcome, three places for the indices that go with it, and one for the float.
+#![tactic(auto)]
+
 ghost use Rattle.std.specs.Prelude.{[], ◌∷◌, ◌≡◌};
 ghost use Rattle.refusal.specs.Refusal as refusal;
 ghost use Rattle.report.specs.Report.{carried};

@@ -1,5 +1,7 @@
 // The factorization of a night's system: the tables are tested, then what is lent, then L is planned and worked out, column after
 // column, in the first places of what is lent.
+#![tactic(auto)]
+
 ghost use Rattle.factor_setup.specs.Exact.{system};
 ghost use Rattle.factor_core.specs.Factorize.{lent, Factors, early};
 

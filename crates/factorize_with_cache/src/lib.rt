@@ -1,4 +1,6 @@
 // The factorization of a night's system with a cache lent.
+#![tactic(auto)]
+
 ghost use Rattle.factor_setup.specs.Exact.{system};
 ghost use Rattle.factor_core.specs.Factorize.{lent};
 ghost use Rattle.factor_core.specs.Cache.{FactorsWithCache};

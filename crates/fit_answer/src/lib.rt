@@ -1,4 +1,6 @@
 // What the program `fit` prints for the bytes of a sheet, whatever they are.
+#![tactic(auto)]
+
 pub mod cores;
 
 ghost use Rattle.render.specs.Rendered.{told_line, Renders, text_verdict};

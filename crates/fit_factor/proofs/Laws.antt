@@ -8,7 +8,7 @@ use native.Mathlib.Decide.{dec_lt}
 use lib.Ieee.{Float}
 use borrow.Author.Tests.{lt-ltb, le-ltb}
 use Rattle.refusal.specs.Refusal.{Told, tells, number, done, short_buffer, no_room, refuses, first_of, verdict, verdict_after, after}
-use Rattle.refusal.specs.Check as goal
+use Rattle.refusal.specs.Check as need
 use Rattle.refusal.proofs.Laws.{verdict-stops, verdict-goes, need-short, need-met}
 use Rattle.buckets.specs.Buckets.{before}
 use Rattle.needs.specs.Needs.{Lent, need_checks, AllMet}
@@ -138,7 +138,7 @@ pub record Rooms (b : Places) : Type 0 where
 
 module _ (a : System) (passes : system_verdict a.dims a.starts a.rows a.values a.perm a.late a.tol ≡ done)
     (few : blocks a ≤ 128) (listed : length a.rows ≤ 1024) (scalars : scalar_count a.dims ≤ 512) (b : Places) (r : Rooms b) where
-  at_least : {have room goal : ℕ} → have ≡ room → goal ≤ room → goal ≤ have
+  at_least : {have room need : ℕ} → have ≡ room → need ≤ room → need ≤ have
   at_least e h = omega arith
 
   first-met : AllMet (first_list a b)
@@ -154,24 +154,24 @@ module _ (a : System) (passes : system_verdict a.dims a.starts a.rows a.values a
   whole_is = go (dec_lt 8192 (numbers a))
     where
       row-table : List Told
-      row-table = goal.need_check 3 (length b.l_rows) (stored a) ∷ []
+      row-table = need.need_check 3 (length b.l_rows) (stored a) ∷ []
 
       bodies : List Told
-      bodies = goal.need_check 5 (length b.l_values) (numbers a) ∷ row-table
+      bodies = need.need_check 5 (length b.l_values) (numbers a) ∷ row-table
 
       offsets-met : whole done a b ≡ verdict bodies
-      offsets-met = verdict-goes (goal.need_check 4 (length b.l_offsets) (stored a + 1)) bodies
+      offsets-met = verdict-goes (need.need_check 4 (length b.l_offsets) (stored a + 1)) bodies
           (need-met 4 (length b.l_offsets) (stored a + 1) (at_least r.l_offsets (omega (arith, stored-few a passes few scalars))))
 
       rows-met : verdict row-table ≡ done
-      rows-met = verdict-goes (goal.need_check 3 (length b.l_rows) (stored a)) [] (need-met 3 (length b.l_rows) (stored a) (at_least r.l_rows (stored-few a passes few scalars)))
+      rows-met = verdict-goes (need.need_check 3 (length b.l_rows) (stored a)) [] (need-met 3 (length b.l_rows) (stored a) (at_least r.l_rows (stored-few a passes few scalars)))
 
       go : Dec (8192 < numbers a) → whole done a b ≡ cond (ltb 8192 (numbers a)) (short_buffer 5 (numbers a)) done
       go (yes h) =
           let short = need-short 5 (length b.l_values) (numbers a) (omega (arith, r.l_values)) in
-          offsets-met ∙ (verdict-stops (goal.need_check 5 (length b.l_values) (numbers a)) row-table (ap refuses short) ∙ (short ∙ sym (ap (λ (c : Bool). cond c (short_buffer 5 (numbers a)) done) (lt-ltb 8192 (numbers a) h))))
+          offsets-met ∙ (verdict-stops (need.need_check 5 (length b.l_values) (numbers a)) row-table (ap refuses short) ∙ (short ∙ sym (ap (λ (c : Bool). cond c (short_buffer 5 (numbers a)) done) (lt-ltb 8192 (numbers a) h))))
       go (no h) =
-          offsets-met ∙ (verdict-goes (goal.need_check 5 (length b.l_values) (numbers a)) row-table (need-met 5 (length b.l_values) (numbers a) (at_least r.l_values (omega arith)))
+          offsets-met ∙ (verdict-goes (need.need_check 5 (length b.l_values) (numbers a)) row-table (need-met 5 (length b.l_values) (numbers a) (at_least r.l_values (omega arith)))
           ∙ (rows-met ∙ sym (ap (λ (c : Bool). cond c (short_buffer 5 (numbers a)) done) (le-ltb 8192 (numbers a) (omega arith)))))
 
   whole-refuses : refuses (whole done a b) ≡ refuses (l_room_check a)

@@ -1,2 +1,4 @@
 // A night within the rooms of the program `fit`: its factorization, its solve and its marks.
+#![tactic(auto)]
+
 pub mod cores;

@@ -1,2 +1,4 @@
 // The forward part of the solve: L y = b, columns ascending.
+#![tactic(auto)]
+
 pub mod cores;

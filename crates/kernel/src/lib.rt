@@ -1,4 +1,6 @@
 // The thirteen kernels of kernel.rs under the source's names.
+#![tactic(auto)]
+
 pub use kernel_diag::{diag_matsolve_inplaced, diag_solve_inplaced};
 pub use kernel_diag_right::diag_right_matsolve_inplace;
 pub use kernel_lower::{lower_matsolve_inplace, lower_solve_inplace};

@@ -1,5 +1,7 @@
 // Solves with a diagonal from the left, of kernel.rs. Where d is 0.0 the vector form answers 0.0 and the matrix forms multiply by 0.0, so a
 // semi-definite block is solved with too.
+#![tactic(auto)]
+
 pub mod cores;
 
 ghost use Rattle.std.specs.Prelude.{◌≡◌, length};

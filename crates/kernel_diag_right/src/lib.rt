@@ -1,4 +1,6 @@
 // The solve with a diagonal from the right, of kernel.rs. Where d is 0.0 it multiplies by 0.0.
+#![tactic(auto)]
+
 pub mod cores;
 
 ghost use Rattle.std.specs.Prelude.{◌≡◌, length};

@@ -1,4 +1,6 @@
 // Products of three blocks, of kernel.rs.
+#![tactic(auto)]
+
 pub mod cores;
 
 ghost use Rattle.std.specs.Prelude.{◌≡◌, length};

@@ -1,4 +1,6 @@
 // The substitution with a unit lower triangular block L from the right, of kernel.rs. L's diagonal is not read.
+#![tactic(auto)]
+
 pub mod cores;
 
 ghost use Rattle.std.specs.Prelude.{length};

@@ -1,4 +1,6 @@
 // The product of a transposed block and a vector, of kernel.rs: each sum is gathered from 0.0, then subtracted once.
+#![tactic(auto)]
+
 pub mod cores;
 
 ghost use Rattle.std.specs.Prelude.{◌≡◌, length};

@@ -1,4 +1,6 @@
 // A mark for each scalar of a night: silent where its stored d equals 0.0, so that its 0.0 is no evidence, else heard.
+#![tactic(auto)]
+
 pub mod cores;
 
 ghost use Rattle.std.specs.Prelude.{length};

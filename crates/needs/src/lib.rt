@@ -1,4 +1,6 @@
 // 11 of document 01: of the buffers that a call is lent, the first that is shorter than its need. A call's needs are one list.
+#![tactic(auto)]
+
 ghost use Rattle.std.specs.Prelude.{◌≡◌};
 ghost use Rattle.refusal.specs.Refusal.{verdict};
 ghost use Rattle.needs.specs.Needs.{told, lent_from, need_checks};

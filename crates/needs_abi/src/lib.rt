@@ -1,6 +1,8 @@
 // The needs of every lent buffer for callers in C and Rust: a call for each call that is lent any, to be made before it. The list is in the
 // order of the call, so that 11, which carries the buffer and its need, carries a place of it and what stands there. The answer is document
 // 01's number, 0 where the call is accepted. Refused, the needs are zeros; `told` has the block of 2, and zeros after and else.
+#![tactic(auto)]
+
 ghost use Rattle.std.specs.Prelude.{◌≡◌, [], ◌∷◌, length};
 ghost use Rattle.refusal.specs.Refusal as refusal;
 ghost use Rattle.report.specs.Report.{carried};

@@ -1,5 +1,7 @@
 // The plan of a night, from A's tables, the permutation and the late flags: what L has in all, where each of its columns begins, and
 // its rows. Numbers are not read: the plan of a night holds for every night of the same pattern.
+#![tactic(auto)]
+
 ghost use Rattle.refusal.specs.Refusal.{verdict};
 ghost use Rattle.needs.specs.Needs.{need_checks};
 ghost use Rattle.tables.specs.Sound.{PlanSound};

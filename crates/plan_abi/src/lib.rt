@@ -1,5 +1,7 @@
 // The plan of a night for callers in C and Rust. A slice is a pointer and a length, and the answer is document 01's number, 0 where
 // the call is accepted.
+#![tactic(auto)]
+
 ghost use Rattle.std.specs.Prelude.{◌≡◌};
 ghost use Rattle.refusal.specs.Refusal as refusal;
 ghost use Rattle.report.specs.Report.{carried};

@@ -1,4 +1,6 @@
 // The outcome of a plan, the whole promise of it, and the plan in buffers that have exactly their needs.
+#![tactic(auto)]
+
 pub mod cores;
 
 use analysis::cores::Counts;

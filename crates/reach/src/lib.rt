@@ -1,4 +1,6 @@
 // The walk over an elimination tree by which a column finds the columns that reach it.
+#![tactic(auto)]
+
 pub mod cores;
 
 ghost use Rattle.std.specs.Prelude.{length};

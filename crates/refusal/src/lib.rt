@@ -1,5 +1,7 @@
 // The checks of sizes and of the lengths of slices that calls on one block make, 2 and 12 of document 01, and the outcome of
 // a call that refuses nothing else. `specs/Refusal.antt` has all sixteen refusals.
+#![tactic(auto)]
+
 ghost use Rattle.std.specs.Prelude.{◌≡◌, Bool, eqb, ◌*◌};
 ghost use Rattle.refusal.specs.Refusal.{done, first_of, refuses};
 ghost use Rattle.refusal.specs.Check.{size_check, area_check};

@@ -1,4 +1,6 @@
 // The bytes that the program `fit` prints, rendered into a lent buffer.
+#![tactic(auto)]
+
 pub mod cores;
 
 ghost use Rattle.std.specs.Prelude.{length};

@@ -1,4 +1,6 @@
 // The words of a list of cases, 64 bits each, little-endian: read as counts and floats, and compared. A word past the end is 0.
+#![tactic(auto)]
+
 ghost use Rattle.std.specs.Prelude.{◌≡◌, ◌+◌, ◌<◌, length};
 ghost use Rattle.replay.specs.Words.{two_at, four_at, word_at, word_float, onward, Stands, Same, Compared};
 

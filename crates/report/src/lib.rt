@@ -1,4 +1,6 @@
 // The report of an exported call: three places for what its answer carries, written in full by every call.
+#![tactic(auto)]
+
 ghost use Rattle.std.specs.Prelude.{[], ◌∷◌, ◌≡◌};
 
 // The report is written, and the number handed back.

@@ -1,4 +1,6 @@
 // Single floats and the entries of a block: what every kernel stands on.
+#![tactic(auto)]
+
 pub mod cores;
 
 ghost use Rattle.std.specs.Prelude.{◌≡◌, length};

@@ -1,5 +1,7 @@
 // A sheet read into tables, whatever its bytes are: accepted, or refused in the order of the program `fit`. What the bytes of a sheet
 // hold, and the verdict, are in specs/Sheet.antt of sheet_check.
+#![tactic(auto)]
+
 ghost use Rattle.std.specs.Prelude.{◌≡◌};
 ghost use Rattle.sheet_check.specs.Outcome.{told, sheet_told};
 ghost use Rattle.sheet.specs.Reads.{Reads};

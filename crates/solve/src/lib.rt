@@ -1,5 +1,7 @@
 // The solve of a night with a block factor: the tables are tested, then what is lent, then whether the factor is that of the system; only
 // then anything is written.
+#![tactic(auto)]
+
 ghost use Rattle.std.specs.Prelude.{◌≡◌, length};
 ghost use Rattle.refusal.specs.Refusal.{refuses, first_of, verdict};
 ghost use Rattle.needs.specs.Needs.{need_checks};

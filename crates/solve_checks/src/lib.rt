@@ -2,6 +2,8 @@
 // tables, 1 to 9 of document 01, on any input whatever: accepted, or the refusal with the lowest number, at its first place. Within
 // a number A's table comes before the factor's, and the parents come last of 5. Only 7 stands behind 8 and 9: the areas of a factor go by
 // the order of elimination.
+#![tactic(auto)]
+
 pub mod cores;
 
 ghost use Rattle.std.specs.Prelude.{◌≡◌};

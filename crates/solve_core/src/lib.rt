@@ -1,2 +1,4 @@
 // The solve with a block factor, where its tables are known to be good.
+#![tactic(auto)]
+
 pub mod cores;

@@ -1,2 +1,4 @@
 // The plan of L: how many rows each column has, where each begins, and the rows.
+#![tactic(auto)]
+
 pub mod cores;

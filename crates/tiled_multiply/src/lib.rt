@@ -1,2 +1,4 @@
 // A B, worked out in tiles that are held in locals while t ascends.
+#![tactic(auto)]
+
 pub mod cores;

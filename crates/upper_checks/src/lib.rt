@@ -1,4 +1,6 @@
 // The checks of an upper pattern, alone and with the parents of its blocks, 1, 3, 5 and 6 of document 01, on any input whatever.
+#![tactic(auto)]
+
 ghost use Rattle.std.specs.Prelude.{◌≡◌};
 ghost use Rattle.tables.specs.Verdict.{upper_verdict, tree_verdict};
 ghost use Rattle.upper_checks.specs.Outcome.{told_upper, told_tree};

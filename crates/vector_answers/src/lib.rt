@@ -1,4 +1,6 @@
 // What a call on one block answers, as the oracle's list writes it: a number, indices, floats.
+#![tactic(auto)]
+
 ghost use Rattle.std.specs.Prelude.{◌≡◌, true, [], ◌∷◌, ◌<◌};
 ghost use Rattle.refusal.specs.Refusal.{tells};
 ghost use Rattle.refusal.specs.Shaped.{told};

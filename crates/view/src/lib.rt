@@ -1,6 +1,8 @@
 // A block shown as its numbers with its height and width: a struct that holds a slice. The work is done by functions on the
 // slice and the sizes, which take the struct's fields first and in their order. The functions over the struct take it apart
 // and call those; each is proved by a walk of its MIR.
+#![tactic(auto)]
+
 ghost use Rattle.std.specs.Prelude.{◌≡◌, length};
 ghost use Rattle.refusal.specs.Refusal.{first_of};
 ghost use Rattle.refusal.specs.Shaped.{told, Answers};

@@ -1,6 +1,5 @@
 -- `bits::number` meets its contract: its test is that of a NaN's bits. Assumes nothing.
 use mathlib.Core.Path.{◌∙◌}
-use borrow.Author.Rules.{rules}
 use Rattle.bits.proofs.Laws.{nan-bits, no-nan-bits}
 use Rattle.bits.proofs.number.Goals as goal
 

@@ -2,8 +2,6 @@
 use Rattle.std.specs.Prelude.{◌≡◌, true}
 use mathlib.Core.Path.{sym, ap, ◌∙◌}
 use native.Mathlib.Omega.{arith}
-use borrow.Author.Rules.{rules}
-use borrow.Author.Tests.{not-true, not-false}
 use Rattle.scalar.specs.Scalar.{is_tolerance}
 use Rattle.scalar.proofs.Laws.{area-fits}
 use Rattle.block_diag_ldlt.specs.Block.{block_ldlt, told_settled, decomposed}

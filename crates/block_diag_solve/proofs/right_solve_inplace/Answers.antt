@@ -1,5 +1,4 @@
 -- `block_diag_solve::right_solve_inplace` meets its contract: what the checks of the shapes say, then what the core does. Assumes nothing.
-use borrow.Author.Rules.{rules}
 use Rattle.refusal.proofs.Laws.{goes_on, answer-refused, answer-done}
 use Rattle.dense_solve_right.proofs.Shapes.{right-lengths}
 use Rattle.block_diag_solve.proofs.right_solve_inplace.Goals as goal

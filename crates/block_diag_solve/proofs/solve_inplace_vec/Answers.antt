@@ -1,5 +1,4 @@
 -- `block_diag_solve::solve_inplace_vec` meets its contract: what the checks of the shapes say, then what the core does. Assumes nothing.
-use borrow.Author.Rules.{rules}
 use Rattle.refusal.proofs.Laws.{goes_on, answer-refused, answer-done}
 use Rattle.dense_solve.proofs.Shapes.{solve-lengths}
 use Rattle.block_diag_solve.proofs.solve_inplace_vec.Goals as goal

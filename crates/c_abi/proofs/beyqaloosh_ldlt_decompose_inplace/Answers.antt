@@ -1,6 +1,5 @@
 -- `c_abi::beyqaloosh_ldlt_decompose_inplace` meets its contract: the number of what the call answers. Assumes nothing.
 use mathlib.Core.Path.{ap}
-use borrow.Author.Rules.{rules}
 use Rattle.c_abi.specs.Number.{numbered}
 use Rattle.c_abi.proofs.beyqaloosh_ldlt_decompose_inplace.Goals as goal
 

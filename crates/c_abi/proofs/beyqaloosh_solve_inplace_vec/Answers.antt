@@ -1,5 +1,4 @@
 -- `c_abi::beyqaloosh_solve_inplace_vec` meets its contract: the number of what the call answers. Assumes nothing.
-use borrow.Author.Rules.{rules}
 use Rattle.c_abi.proofs.Laws.{numbers}
 use Rattle.c_abi.proofs.beyqaloosh_solve_inplace_vec.Goals as goal
 

@@ -1,8 +1,6 @@
 -- `checks::check_system` meets its contract: each test that passes leaves the verdict to the checks after it, and the first that fails is the verdict. Assumes nothing.
 use Rattle.std.specs.Prelude.{◌≡◌, List, length, drop}
 use mathlib.Core.Path.{refl, sym, ◌∙◌}
-use borrow.Author.Rules.{rules}
-use borrow.Author.Tests.{not-true, not-false}
 use Rattle.refusal.specs.Refusal.{Told, verdict}
 use Rattle.tables.specs.Verdict.{system_checks, system_verdict, from_diagonal}
 use Rattle.tables.specs.Sound.{Ordered, Columns, Measured}

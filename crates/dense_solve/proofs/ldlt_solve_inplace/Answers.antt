@@ -1,5 +1,4 @@
 -- `dense_solve::ldlt_solve_inplace` meets its contract: what the checks of the shapes say, then what the core does. Assumes nothing.
-use borrow.Author.Rules.{rules}
 use Rattle.refusal.proofs.Laws.{goes_on, answer-refused, answer-done}
 use Rattle.dense_solve.proofs.Shapes.{solve-lengths}
 use Rattle.dense_solve.proofs.ldlt_solve_inplace.Goals as goal

@@ -1,5 +1,4 @@
 -- `dense_solve::matsolve_shapes` meets its contract: one check after the other. Assumes nothing.
-use borrow.Author.Rules.{rules}
 use Rattle.dense_solve.specs.Solve.{matsolve_verdict}
 use Rattle.dense_solve.proofs.matsolve_shapes.Goals as goal
 

@@ -1,8 +1,7 @@
 -- `elimination_tree::grown_core` meets its contract: short buffers, or the tree in the first n places. Assumes nothing.
-use Rattle.std.specs.Prelude.{◌≡◌, ℕ, ◌+◌, ◌<◌, ◌≤◌, List, ◌++◌, length, take, drop, replicate}
+use Rattle.std.specs.Prelude.{◌≡◌, ℕ, List, ◌++◌, length, take, drop, replicate}
 use mathlib.Core.Path.{refl, sym, ap, subst, ◌∙◌}
 use native.Mathlib.Omega.{arith}
-use borrow.Author.Rules.{rules}
 use lib.Seq.{length-take-le, take_at}
 use Rattle.refusal.specs.Refusal.{refuses}
 use Rattle.elimination_tree.specs.Tree.{Pattern, Ascends, linked_up, parents_of}

@@ -1,7 +1,6 @@
 -- `elimination_tree::new` meets its contract: the pattern is refused, or it passes and the needs decide. Assumes nothing.
-use Rattle.std.specs.Prelude.{◌≡◌, ℕ, length}
+use Rattle.std.specs.Prelude.{◌≡◌, length}
 use mathlib.Core.Path.{refl, sym, ap, subst, ◌∙◌}
-use borrow.Author.Rules.{rules}
 use Rattle.refusal.specs.Refusal.{Told, done, refuses}
 use Rattle.tables.specs.Verdict.{upper_verdict}
 use Rattle.upper_checks.specs.Outcome.{told_upper}

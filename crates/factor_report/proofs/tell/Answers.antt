@@ -3,7 +3,6 @@ use Prim.Native.Nat.{ℕ}
 use mathlib.Core.List.{List}
 use mathlib.Core.Path.{◌≡◌, sym, ap, ◌∙◌}
 use lib.Ieee.{Float}
-use borrow.Author.Rules.{rules}
 use Rattle.refusal.specs.Refusal.{number}
 use Rattle.report.specs.Report.{carried}
 use Rattle.factor_core.specs.Factorize as core

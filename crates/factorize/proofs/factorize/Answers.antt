@@ -1,5 +1,4 @@
 -- `factorize::factorize` meets its contract: no cache is lent, and none is needed. Assumes nothing.
-use borrow.Author.Rules.{rules}
 use native.Mathlib.Omega.{arith}
 use Rattle.machine.specs.System.{System}
 use Rattle.factor_setup.specs.Exact.{system}

@@ -1,5 +1,4 @@
 -- `kernel_diag::diag_mat_shapes` meets its contract: one check after the other. Assumes nothing.
-use borrow.Author.Rules.{rules}
 use Rattle.kernel_diag.specs.Diag.{diag_mat_verdict}
 use Rattle.kernel_diag.proofs.diag_mat_shapes.Goals as goal
 

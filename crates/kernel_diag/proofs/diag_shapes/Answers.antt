@@ -1,5 +1,4 @@
 -- `kernel_diag::diag_shapes` meets its contract: one check after the other. Assumes nothing.
-use borrow.Author.Rules.{rules}
 use Rattle.kernel_diag.specs.Diag.{diag_verdict}
 use Rattle.kernel_diag.proofs.diag_shapes.Goals as goal
 

@@ -1,5 +1,4 @@
 -- `kernel_diag::diag_solve_inplaced` meets its contract: what the checks of the shapes say, then what the core does. Assumes nothing.
-use borrow.Author.Rules.{rules}
 use Rattle.refusal.proofs.Laws.{goes_on, answer-refused, answer-done}
 use Rattle.kernel_diag.proofs.Shapes.{diag-lengths}
 use Rattle.kernel_diag.proofs.diag_solve_inplaced.Goals as goal

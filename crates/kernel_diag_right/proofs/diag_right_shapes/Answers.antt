@@ -1,5 +1,4 @@
 -- `kernel_diag_right::diag_right_shapes` meets its contract: one check after the other. Assumes nothing.
-use borrow.Author.Rules.{rules}
 use Rattle.kernel_diag_right.specs.DiagRight.{diag_right_verdict}
 use Rattle.kernel_diag_right.proofs.diag_right_shapes.Goals as goal
 

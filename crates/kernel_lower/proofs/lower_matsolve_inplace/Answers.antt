@@ -1,5 +1,4 @@
 -- `kernel_lower::lower_matsolve_inplace` meets its contract: what the checks of the shapes say, then what the core does. Assumes nothing.
-use borrow.Author.Rules.{rules}
 use Rattle.refusal.proofs.Laws.{goes_on, answer-refused, answer-done}
 use Rattle.kernel_lower.proofs.Shapes.{matsolve-lengths}
 use Rattle.kernel_lower.proofs.lower_matsolve_inplace.Goals as goal

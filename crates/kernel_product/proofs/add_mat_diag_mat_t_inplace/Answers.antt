@@ -1,5 +1,4 @@
 -- `kernel_product::add_mat_diag_mat_t_inplace` meets its contract: what the checks of the shapes say, then what the core does. Assumes nothing.
-use borrow.Author.Rules.{rules}
 use Rattle.refusal.proofs.Laws.{goes_on, answer-refused, answer-done}
 use Rattle.kernel_product.proofs.Shapes.{product-lengths}
 use Rattle.kernel_product.proofs.add_mat_diag_mat_t_inplace.Goals as goal

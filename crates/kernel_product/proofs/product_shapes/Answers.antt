@@ -1,5 +1,4 @@
 -- `kernel_product::product_shapes` meets its contract: one check after the other. Assumes nothing.
-use borrow.Author.Rules.{rules}
 use Rattle.kernel_product.specs.Product.{product_verdict}
 use Rattle.kernel_product.proofs.product_shapes.Goals as goal
 

@@ -1,5 +1,4 @@
 -- `kernel_vector::sub_mat_plus_vec_inplace` meets its contract: what the checks of the shapes say, then what the core does. Assumes nothing.
-use borrow.Author.Rules.{rules}
 use Rattle.refusal.proofs.Laws.{goes_on, answer-refused, answer-done}
 use Rattle.kernel_vector.proofs.Shapes.{vector-lengths}
 use Rattle.kernel_vector.proofs.sub_mat_plus_vec_inplace.Goals as goal

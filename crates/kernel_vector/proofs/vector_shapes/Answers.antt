@@ -1,5 +1,4 @@
 -- `kernel_vector::vector_shapes` meets its contract: one check after the other. Assumes nothing.
-use borrow.Author.Rules.{rules}
 use Rattle.kernel_vector.specs.Vector.{vector_verdict}
 use Rattle.kernel_vector.proofs.vector_shapes.Goals as goal
 

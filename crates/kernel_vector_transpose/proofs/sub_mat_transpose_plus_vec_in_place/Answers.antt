@@ -1,5 +1,4 @@
 -- `kernel_vector_transpose::sub_mat_transpose_plus_vec_in_place` meets its contract: what the checks of the shapes say, then what the core does. Assumes nothing.
-use borrow.Author.Rules.{rules}
 use Rattle.refusal.proofs.Laws.{goes_on, answer-refused, answer-done}
 use Rattle.kernel_vector_transpose.proofs.Shapes.{transpose-lengths}
 use Rattle.kernel_vector_transpose.proofs.sub_mat_transpose_plus_vec_in_place.Goals as goal

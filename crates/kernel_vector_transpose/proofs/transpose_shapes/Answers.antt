@@ -1,5 +1,4 @@
 -- `kernel_vector_transpose::transpose_shapes` meets its contract: one check after the other. Assumes nothing.
-use borrow.Author.Rules.{rules}
 use Rattle.kernel_vector_transpose.specs.VectorTranspose.{transpose_verdict}
 use Rattle.kernel_vector_transpose.proofs.transpose_shapes.Goals as goal
 

@@ -5,8 +5,6 @@ use mathlib.Core.Path.{refl, sym, ap, ◌∙◌}
 use native.Mathlib.Nat.{mul-one}
 use native.Mathlib.Omega.{arith}
 use lib.Seq.{length-take-le}
-use borrow.Author.Rules.{rules}
-use borrow.Author.Tests.{not-true, not-false}
 use Rattle.graph.specs.Order.{Permutes}
 use Rattle.refusal.specs.Refusal.{Told, accepted, done, short_buffer, verdict}
 use Rattle.refusal.proofs.Laws.{need-short, need-met, area-differs, area-fits}

@@ -1,10 +1,7 @@
 -- `needs::first_short` meets its contract: the list from place i on decides, one turn a buffer. Assumes nothing.
-use Prim.Native.Nat.{◌-◌, ◌≤◌}
-use mathlib.Core.Path.{◌≡◌, sym, ◌∙◌}
+use mathlib.Core.Path.{sym, ◌∙◌}
 use native.Mathlib.Omega.{arith}
-use borrow.Author.Rules.{rules}
-use lib.ListN.{length}
-use Rattle.needs.proofs.Laws.{rest, rest_end, rest-cut, rest-short, rest-met}
+use Rattle.needs.proofs.Laws.{rest_end, rest-cut, rest-short, rest-met}
 use Rattle.needs.proofs.first_short.Goals as goal
 
 pub returns-then-need-i : goal.returns-then-need-i

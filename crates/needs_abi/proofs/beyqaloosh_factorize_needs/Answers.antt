@@ -2,7 +2,6 @@
 use Rattle.std.specs.Prelude.{ℕ, ◌≤◌, length}
 use native.Mathlib.Omega.{arith}
 use lib.ListN.{length-replicate}
-use borrow.Author.Rules.{rules}
 use Rattle.tables.specs.Sound.{Sizes}
 use Rattle.needs_abi.proofs.Laws.{refused, listed, sized, few_stored}
 use Rattle.needs_abi.proofs.beyqaloosh_factorize_needs.Goals as goal

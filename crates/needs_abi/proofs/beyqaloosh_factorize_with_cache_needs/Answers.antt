@@ -1,7 +1,6 @@
 -- `needs_abi::beyqaloosh_factorize_with_cache_needs` meets its contract. Assumes nothing.
 use Rattle.std.specs.Prelude.{◌≤◌, length}
 use native.Mathlib.Omega.{arith}
-use borrow.Author.Rules.{rules}
 use Rattle.needs_abi.proofs.Laws.{refused, listed, told-needs, sized, few_stored, bound}
 use Rattle.needs_abi.proofs.beyqaloosh_factorize_with_cache_needs.Goals as goal
 

@@ -1,7 +1,6 @@
 -- `needs_abi::beyqaloosh_marks_needs` meets its contract: of no bytes the check tells the scalars. Assumes nothing.
 use Rattle.std.specs.Prelude.{ℕ, [], ◌∷◌}
 use mathlib.Core.Path.{ap, ◌∙◌}
-use borrow.Author.Rules.{rules}
 use Rattle.needs_abi.proofs.Laws.{refused, listed, sized, empty-tells}
 use Rattle.needs_abi.proofs.beyqaloosh_marks_needs.Goals as goal
 

@@ -2,7 +2,6 @@
 use Rattle.std.specs.Prelude.{◌≤◌}
 use mathlib.Core.Path.{refl}
 use native.Mathlib.Omega.{arith}
-use borrow.Author.Rules.{rules}
 use Rattle.needs_abi.proofs.Laws.{refused, listed, few}
 use Rattle.needs_abi.proofs.beyqaloosh_plan_needs.Goals as goal
 

@@ -1,5 +1,4 @@
 -- `needs_abi::beyqaloosh_reach_needs` meets its contract: of an empty buffer each check tells the blocks. Assumes nothing.
-use borrow.Author.Rules.{rules}
 use Rattle.needs_abi.proofs.Laws.{same-needs, each_tells}
 use Rattle.needs_abi.proofs.beyqaloosh_reach_needs.Goals as goal
 

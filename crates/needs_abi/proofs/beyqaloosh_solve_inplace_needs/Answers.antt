@@ -1,5 +1,4 @@
 -- `needs_abi::beyqaloosh_solve_inplace_needs` meets its contract. Assumes nothing.
-use borrow.Author.Rules.{rules}
 use Rattle.needs_abi.proofs.Laws.{refused, listed, sized}
 use Rattle.needs_abi.proofs.beyqaloosh_solve_inplace_needs.Goals as goal
 

@@ -1,7 +1,6 @@
 -- `needs_abi::check_counts` meets its contract: the first of the two checks that refuses is told. Assumes nothing.
 use Rattle.std.specs.Prelude.{[], ◌∷◌}
 use mathlib.Core.Path.{refl, ◌∙◌}
-use borrow.Author.Rules.{rules}
 use Rattle.tables.specs.Verdict.{stored_check}
 use Rattle.tables.proofs.CheckLaws.{stops, goes, blocks-stop, blocks-go, stored-stop, stored-go}
 use Rattle.needs_abi.proofs.Laws.{told-as}

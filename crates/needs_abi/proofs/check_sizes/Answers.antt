@@ -1,7 +1,6 @@
 -- `needs_abi::check_sizes` meets its contract: the first of the three checks that refuses is told. Assumes nothing.
 use Rattle.std.specs.Prelude.{◌≡◌, [], ◌∷◌}
 use mathlib.Core.Path.{refl, ◌∙◌}
-use borrow.Author.Rules.{rules}
 use Rattle.refusal.specs.Refusal.{verdict}
 use Rattle.tables.specs.Verdict.{dims_check, stored_check}
 use Rattle.tables.proofs.CheckLaws.{stops, goes, blocks-stop, blocks-go, dims-stop, dims-go, stored-stop, stored-go}

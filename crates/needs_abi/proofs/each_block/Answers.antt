@@ -1,6 +1,5 @@
 -- `needs_abi::each_block` meets its contract. Assumes nothing.
 use mathlib.Core.Path.{refl}
-use borrow.Author.Rules.{rules}
 use Rattle.needs_abi.proofs.Laws.{refused, listed}
 use Rattle.needs_abi.proofs.each_block.Goals as goal
 

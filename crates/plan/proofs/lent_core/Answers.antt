@@ -1,7 +1,6 @@
 -- `plan::lent_core` meets its contract: the first short buffer, or the plan in the first places of each. Assumes nothing.
 use Rattle.std.specs.Prelude.{◌≡◌, ◌+◌, length}
 use mathlib.Core.Path.{sym, ap, ◌∙◌}
-use borrow.Author.Rules.{rules}
 use lib.Seq.{length-take-le}
 use Rattle.refusal.specs.Refusal.{done, refuses, verdict}
 use Rattle.needs.specs.Needs as needs

@@ -1,7 +1,6 @@
 -- `plan::plan` meets its contract: the tables are refused, or they pass and the needs decide. Assumes nothing.
 use Rattle.std.specs.Prelude.{◌≡◌}
 use mathlib.Core.Path.{refl, sym, ap, subst, ◌∙◌}
-use borrow.Author.Rules.{rules}
 use Rattle.refusal.specs.Refusal.{Told, done, refuses}
 use Rattle.tables.specs.Verdict.{plan_verdict}
 use Rattle.checks.specs.Outcome.{told_plan}

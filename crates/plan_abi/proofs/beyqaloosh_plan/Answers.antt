@@ -1,5 +1,4 @@
 -- `plan_abi::beyqaloosh_plan` meets its contract: the number of what the call answers. Assumes nothing.
-use borrow.Author.Rules.{rules}
 use Rattle.plan_abi.proofs.beyqaloosh_plan.Goals as goal
 
 pub returns : goal.returns

@@ -1,5 +1,5 @@
 -- `reach::reach` meets its contract: the tables are refused, or they pass and the needs decide. Assumes nothing.
-use Rattle.std.proofs.Common.{◌≡◌, length, sym, refl, ap, ◌∙◌, subst, rules}
+use Rattle.std.proofs.Common.{◌≡◌, length, sym, refl, ap, ◌∙◌, subst}
 use Rattle.refusal.specs.Refusal.{Told, done, refuses}
 use Rattle.tables.specs.Verdict.{tree_verdict}
 use Rattle.upper_checks.specs.Outcome.{told_tree}

@@ -1,5 +1,5 @@
 -- `reach::walked_core` meets its contract: short buffers, a block past the last, or the walk in the first n places. Assumes nothing.
-use Rattle.std.proofs.Common.{◌≡◌, ℕ, ◌+◌, ◌-◌, ◌<◌, ◌≤◌, length, get_or, take, drop, sym, refl, ap, ◌∙◌, arith, length-take-le, rules}
+use Rattle.std.proofs.Common.{◌+◌, ◌-◌, length, get_or, take, drop, sym, refl, ap, arith, length-take-le}
 use Rattle.refusal.specs.Refusal.{refuses}
 use Rattle.buckets.proofs.Lists.{part_slice}
 use Rattle.reach.proofs.WalkLaws.{rule-of, stamps-short, found-short, past-last, needs-met, refused, walked}

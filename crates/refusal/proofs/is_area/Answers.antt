@@ -1,8 +1,7 @@
 -- `refusal::is_area` meets its contract: by the product where it fits, by the quotient elsewhere. Assumes nothing.
-use mathlib.Core.Path.{refl, sym}
+use mathlib.Core.Path.{sym}
 use native.Mathlib.Nat.{mul-le-mul, zero-mul}
 use native.Mathlib.Omega.{arith}
-use borrow.Author.Rules.{rules}
 use Rattle.refusal.proofs.Laws.{not-multiple, quotient-decides}
 use Rattle.refusal.proofs.is_area.Goals as goal
 

@@ -1,6 +1,5 @@
 -- `refusal::size` meets its contract: each return is a law of the first of two verdicts. Assumes nothing.
 use mathlib.Core.Path.{◌≡◌, sym, ◌∙◌}
-use borrow.Author.Rules.{rules}
 use Rattle.refusal.specs.Refusal.{done}
 use Rattle.refusal.specs.Shaped.{told}
 use Rattle.refusal.proofs.Laws.{first-refuses, passed, size_small, size-large, size_fits}

@@ -8,7 +8,6 @@ use Rattle.render.specs.Lines.{first_line, lines, answer_text}
 use Rattle.render.specs.Rendered.{Renders}
 use Rattle.render.proofs.Laws.{puts-next}
 use Rattle.render.proofs.Outcomes.{renders-short, renders-text, renders_many, renders_unlike, shapes_agree}
-use borrow.Author.Rules.{rules}
 use Rattle.render.proofs.answer.Goals as goal
 
 abbrev text : goal.Then-x-gt65536 → List ℕ

@@ -5,7 +5,6 @@ use native.Mathlib.Omega.{arith}
 use Rattle.render.specs.Lines.{refused_line}
 use Rattle.render.proofs.Laws.{length-refused}
 use Rattle.render.proofs.Outcomes.{renders-short, renders-text}
-use borrow.Author.Rules.{rules}
 use Rattle.render.proofs.refused.Goals as goal
 
 need : (c : goal.Then-out-need) → c.places-need.result + 9 ≡ length (refused_line c.args.number)

@@ -1,11 +1,9 @@
 -- `replay::fill` meets its contract: the floats passed stand there. Assumes nothing.
-use Prim.Native.Nat.{ℕ, ◌≤◌, ◌<◌, ◌-◌}
-use mathlib.Core.Path.{◌≡◌, ◌∙◌, ap}
+use mathlib.Core.Path.{◌∙◌, ap}
 use native.Mathlib.Omega.{arith}
-use lib.ListN.{length, get_or, length-set}
-use lib.Ieee.{nan}
+use lib.ListN.{length-set}
 use borrow.Author.Rules.{rules}
-use Rattle.replay.specs.Words.{word_float, float_at}
+use Rattle.replay.specs.Words.{word_float}
 use Rattle.replay.proofs.Laws.{one_more}
 use Rattle.replay.proofs.fill.Goals as goal
 

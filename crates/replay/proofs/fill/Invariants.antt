@@ -1,12 +1,9 @@
 -- `replay::fill` meets its contract: the floats passed stand there. Assumes nothing.
 use Prim.Native.Nat.{ℕ, ◌≤◌, ◌<◌, ◌-◌}
-use mathlib.Core.Path.{◌≡◌, ◌∙◌, ap}
-use native.Mathlib.Omega.{arith}
-use lib.ListN.{length, get_or, length-set}
+use mathlib.Core.Path.{◌≡◌}
+use lib.ListN.{length, get_or}
 use lib.Ieee.{nan}
-use borrow.Author.Rules.{rules}
-use Rattle.replay.specs.Words.{word_float, float_at}
-use Rattle.replay.proofs.Laws.{one_more}
+use Rattle.replay.specs.Words.{float_at}
 use Rattle.replay.proofs.fill.Given as goal
 
 abbrev pub invariant-loop-k : goal.invariant-loop-k

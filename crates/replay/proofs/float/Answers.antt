@@ -1,7 +1,6 @@
 -- `replay::float` meets its contract: the word's bits make the float. Assumes nothing.
 use mathlib.Core.Path.{◌∙◌, ap}
 use lib.Ieee.{binary64, of_bits}
-use borrow.Author.Rules.{rules}
 use Rattle.replay.proofs.float.Goals as goal
 
 pub returns : goal.returns

@@ -1,14 +1,9 @@
 -- `replay::same_slice` meets its contract: the floats passed are the same. Assumes nothing.
 use Prim.Native.Nat.{ℕ, ◌≤◌, ◌<◌, ◌-◌}
-use mathlib.Core.Path.{◌≡◌, refl, sym, ◌∙◌, ap}
-use native.Mathlib.Omega.{arith}
+use mathlib.Core.Path.{◌≡◌}
 use lib.ListN.{length, get_or}
 use lib.Ieee.{nan}
-use borrow.Author.Count.{below_more}
-use borrow.Author.Tests.{not-true, not-false}
-use borrow.Author.Rules.{rules}
-use Rattle.replay.specs.Words.{word_float, float_at}
-use Rattle.replay.proofs.Laws.{never}
+use Rattle.replay.specs.Words.{float_at}
 use Rattle.replay.proofs.same_slice.Given as goal
 
 abbrev pub invariant-loop-k : goal.invariant-loop-k

@@ -1,5 +1,4 @@
 -- `replay::word` meets its contract: within the words it reads two fours of bytes, past them 0. Assumes nothing.
-use borrow.Author.Rules.{rules}
 use Rattle.replay.proofs.Laws.{word_in, word_out}
 use Rattle.replay.proofs.word.Goals as goal
 

@@ -1,10 +1,9 @@
 -- `scalar::blank` meets its contract: the numbers passed are NaNs. Assumes nothing.
-use Rattle.std.specs.Prelude.{◌≡◌, ◌-◌, ◌≤◌, ◌++◌, length, drop, replicate}
 use mathlib.Core.Path.{refl}
 use lib.Ieee.{nan}
 use native.Mathlib.Omega.{arith}
 use borrow.Author.Rules.{rules}
-use Rattle.scalar.proofs.Laws.{fill_more, fill-all, kernels}
+use Rattle.scalar.proofs.Laws.{fill_more, fill-all}
 use Rattle.scalar.proofs.blank.Goals as goal
 
 pub loop-i-init : goal.loop-i-init

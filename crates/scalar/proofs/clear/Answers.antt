@@ -1,10 +1,9 @@
 -- `scalar::clear` meets its contract: the numbers passed are zeros. Assumes nothing.
-use Rattle.std.specs.Prelude.{◌≡◌, ◌-◌, ◌≤◌, ◌++◌, length, drop, replicate}
 use mathlib.Core.Path.{refl}
 use native.Mathlib.Omega.{arith}
 use borrow.Author.Rules.{rules}
 use Rattle.scalar.specs.Scalar.{nought}
-use Rattle.scalar.proofs.Laws.{fill_more, fill-all, kernels}
+use Rattle.scalar.proofs.Laws.{fill_more, fill-all}
 use Rattle.scalar.proofs.clear.Goals as goal
 
 pub loop-i-init : goal.loop-i-init

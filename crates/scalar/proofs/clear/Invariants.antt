@@ -1,10 +1,6 @@
 -- `scalar::clear` meets its contract: the numbers passed are zeros. Assumes nothing.
 use Rattle.std.specs.Prelude.{◌≡◌, ◌-◌, ◌≤◌, ◌++◌, length, drop, replicate}
-use mathlib.Core.Path.{refl}
-use native.Mathlib.Omega.{arith}
-use borrow.Author.Rules.{rules}
 use Rattle.scalar.specs.Scalar.{nought}
-use Rattle.scalar.proofs.Laws.{fill_more, fill-all, kernels}
 use Rattle.scalar.proofs.clear.Given as goal
 
 abbrev pub invariant-loop-i : goal.invariant-loop-i

@@ -1,5 +1,4 @@
 -- `scalar::is_tolerance` meets its contract: each way rewrites the definition with the test that led there. Assumes nothing.
-use borrow.Author.Rules.{rules}
 use Rattle.scalar.proofs.is_tolerance.Goals as goal
 
 pub returns-then-is_finite : goal.returns-then-is_finite

@@ -5,7 +5,6 @@ use native.Mathlib.Omega.{arith}
 use Rattle.sheet_bytes.specs.Layout.{blocks_of, stored_of}
 use Rattle.sheet_check.specs.Checks.{room_blocks, room_stored}
 use Rattle.sheet.proofs.Laws.{head-short, head-blocks, head-stored, head-cut, head_passed}
-use borrow.Author.Rules.{rules}
 use Rattle.sheet.proofs.check.Goals as goal
 
 pub returns-then-bytes-lt16 : goal.returns-then-bytes-lt16

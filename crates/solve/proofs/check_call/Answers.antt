@@ -1,7 +1,6 @@
 -- `solve::check_call` meets its contract: the tables are refused, or they pass and 11 and 12 decide. Assumes nothing.
 use Rattle.std.specs.Prelude.{◌≡◌}
 use mathlib.Core.Path.{refl, sym, ap, ◌∙◌}
-use borrow.Author.Rules.{rules}
 use Rattle.refusal.specs.Refusal.{done, refuses}
 use Rattle.solve_checks.specs.Verdict.{solve_verdict}
 use Rattle.solve_checks.specs.Outcome.{told_solve}

@@ -1,7 +1,6 @@
 -- `solve::lent_core` meets its contract: the first short buffer, or 12. Assumes nothing.
 use Rattle.std.specs.Prelude.{◌≡◌}
 use mathlib.Core.Path.{refl, sym, ap, ◌∙◌}
-use borrow.Author.Rules.{rules}
 use Rattle.refusal.specs.Refusal.{verdict}
 use Rattle.needs.specs.Needs as needs
 use Rattle.solve.specs.Solve.{lent_list}

@@ -1,6 +1,5 @@
 -- `solve::match_core` meets its contract: each case has its own. Assumes nothing.
 use mathlib.Core.Path.{sym, ap, ◌∙◌}
-use borrow.Author.Rules.{rules}
 use Rattle.solve_match.specs.Outcome.{told_matched}
 use Rattle.solve.proofs.match_core.Goals as goal
 

@@ -1,7 +1,6 @@
 -- `solve::solve_inplace` meets its contract: refused, nothing is written; else the core solves. Assumes nothing.
 use Rattle.std.specs.Prelude.{◌≡◌, false}
 use mathlib.Core.Path.{sym, ap, ◌∙◌}
-use borrow.Author.Rules.{rules}
 use Rattle.refusal.specs.Refusal.{refuses}
 use Rattle.solve.specs.Solve.{Call, call, verdict_of}
 use Rattle.solve.proofs.Laws.{ready, roomy, refused, answered}

@@ -2,7 +2,6 @@
 use Prim.Native.Nat.{ℕ}
 use mathlib.Core.List.{List}
 use mathlib.Core.Path.{◌≡◌, sym, ap, ◌∙◌}
-use borrow.Author.Rules.{rules}
 use Rattle.refusal.specs.Refusal.{number}
 use Rattle.report.specs.Report.{carried}
 use Rattle.solve.specs.Solve as solve

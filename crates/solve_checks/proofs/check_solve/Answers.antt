@@ -1,7 +1,6 @@
 -- `solve_checks::check_solve` meets its contract: each test that passes leaves the verdict to the checks after it, and the first that fails is the verdict. Assumes nothing.
 use Rattle.std.specs.Prelude.{◌≡◌, ◌≤◌, List, length, drop}
 use mathlib.Core.Path.{refl, ◌∙◌}
-use borrow.Author.Rules.{rules}
 use Rattle.graph.specs.Order.{Permutes}
 use Rattle.refusal.specs.Refusal.{Told, verdict}
 use Rattle.tables.specs.Verdict.{past_diagonal}
@@ -443,14 +442,13 @@ l-columns : (c : goal.Else-k9-n) → Columns past_diagonal (length c.args.dims.n
 l-columns c =
     columns_of past_diagonal _ _ _ (l-ordered-3 c) (at-end c.first_row-l5.ensures c.if-l5-lm.false) (at-end c.first_fall-l6.ensures c.if-l6-lm.false)
 
-measures : (c : goal.Else-k9-n) → 
+measures : (c : goal.Else-k9-n) →
     ((length c.args.dims.now ≤ 4096) × Sizes c.args.dims.now × Permutes (length c.args.dims.now) c.args.perm.now × (length c.args.late.now ≡ length c.args.dims.now))
     × Columns past_diagonal (length c.args.dims.now) c.args.l_starts.now c.args.l_rows.now
-measures c =
-    (
-      (few-5 c, sizes-of _ (at-end c.first_dim-k2.ensures c.if-k2-n.false), permutes-of _ _ (at-end c.first_perm-k8.ensures c.if-k8-n.false), (flags_of _ _ (at-end c.first_late-k9.ensures c.if-k9-n.false)).0),
-      l-columns c,
-    )
+measures c = (
+  (few-5 c, sizes-of _ (at-end c.first_dim-k2.ensures c.if-k2-n.false), permutes-of _ _ (at-end c.first_perm-k8.ensures c.if-k8-n.false), (flags_of _ _ (at-end c.first_late-k9.ensures c.if-k9-n.false)).0),
+  l-columns c,
+)
 
 pub area_under-need-requires : goal.area_under-need-requires
-area_under-need-requires c =  let both = measures c in record { dims_len_bound = both.0; columns = both.1 }
+area_under-need-requires c = let both = measures c in record { dims_len_bound = both.0; columns = both.1 }

@@ -1,7 +1,6 @@
 -- `upper_checks::check_tree` meets its contract: each test that passes leaves the verdict to the checks after it, and the first that fails is the verdict. Assumes nothing.
 use Rattle.std.specs.Prelude.{◌≡◌, List, length, drop}
 use mathlib.Core.Path.{refl, ◌∙◌}
-use borrow.Author.Rules.{rules}
 use Rattle.refusal.specs.Refusal.{Told, verdict}
 use Rattle.tables.specs.Verdict.{tree_checks, tree_verdict}
 use Rattle.tables.specs.Sound.{Ordered}

@@ -1,7 +1,6 @@
 -- `vector_answers::float_is` meets its contract: it compares where there is a float. Assumes nothing.
 use mathlib.Core.Path.{refl, sym, ◌∙◌}
 use native.Mathlib.Omega.{arith}
-use borrow.Author.Rules.{rules}
 use Rattle.vector_answers.proofs.float_is.Goals as goal
 
 pub returns-then-floats-gt0 : goal.returns-then-floats-gt0

@@ -1,7 +1,6 @@
 -- `vector_answers::index_is` meets its contract: it compares where there are more than k. Assumes nothing.
 use mathlib.Core.Path.{refl, sym, ◌∙◌}
 use native.Mathlib.Omega.{arith}
-use borrow.Author.Rules.{rules}
 use borrow.Author.Tests.{eqb-true, eq-eqb}
 use Rattle.vector_answers.proofs.index_is.Goals as goal
 

@@ -2,8 +2,6 @@
 use mathlib.Core.Bool.{Bool, true, false}
 use mathlib.Core.Path.{◌≡◌, sym, ◌∙◌, ap}
 use Prim.Native.Nat.{ℕ}
-use borrow.Author.Rules.{rules}
-use borrow.Author.Tests.{not-false}
 use Rattle.replay.specs.Words.{word_at, word_float, onward}
 use Rattle.replay.proofs.Laws.{never}
 use Rattle.vector_answers.proofs.matches.Goals as goal

@@ -1,5 +1,4 @@
 -- `vector_answers::of_block` meets its contract: each case is told as the library tells it. Assumes nothing.
-use borrow.Author.Rules.{rules}
 use Rattle.vector_answers.proofs.of_block.Goals as goal
 
 pub returns-in-Accepted : goal.returns-in-Accepted

@@ -1,5 +1,4 @@
 -- `vector_answers::of_result` meets its contract: each case is told as the library tells it. Assumes nothing.
-use borrow.Author.Rules.{rules}
 use Rattle.vector_answers.proofs.of_result.Goals as goal
 
 pub returns-in-PositiveDefinite : goal.returns-in-PositiveDefinite

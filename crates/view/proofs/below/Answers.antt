@@ -1,7 +1,6 @@
 -- `view::below` meets its contract: each return is a law of the first of two verdicts. Assumes nothing.
 use Rattle.std.specs.Prelude.{◌≡◌}
 use mathlib.Core.Path.{sym, ◌∙◌}
-use borrow.Author.Rules.{rules}
 use borrow.Author.Tests.{lt-ltb, le-ltb}
 use Rattle.refusal.specs.Refusal.{done}
 use Rattle.refusal.specs.Shaped.{told}

@@ -2,7 +2,6 @@
 use mathlib.Core.Path.{refl, sym, ap, ◌∙◌}
 use Rattle.std.specs.Prelude.{[], ◌∷◌}
 use lib.Ieee.{Float}
-use borrow.Author.Rules.{rules}
 use Rattle.refusal.specs.Refusal.{accepted}
 use Rattle.refusal.specs.Shaped.{told}
 use Rattle.view.proofs.Entry.{entry-fits, look-refused, look-done}

@@ -1,5 +1,4 @@
 -- `view::entry_shapes` meets its contract: one check after the other. Assumes nothing.
-use borrow.Author.Rules.{rules}
 use Rattle.view.specs.View.{entry_verdict}
 use Rattle.view.proofs.entry_shapes.Goals as goal
 

@@ -1,5 +1,4 @@
 -- `view::minus_product` meets its contract: the kernel that it calls promises the same. Assumes nothing.
-use borrow.Author.Rules.{rules}
 use Rattle.view.proofs.minus_product.Goals as goal
 
 pub returns : goal.returns

@@ -2,7 +2,6 @@
 use Rattle.std.specs.Prelude.{◌≡◌, ℕ, ◌≤◌, Bool, T, List, length, take, drop}
 use mathlib.Core.Path.{sym, subst, ◌∙◌}
 use native.Mathlib.Omega.{arith}
-use borrow.Author.Rules.{rules}
 use lib.Seq.{length-take-le, take_at}
 use Rattle.graph.specs.Links.{rows_in, linked_of}
 use Rattle.graph.proofs.Whole.{linked-symm}
@@ -54,13 +53,16 @@ count_l-counts-requires c =
     let e : length (take n call.new.heads) ≡ n = length-take-le n call.new.heads (room-3 c) in
     let few = c.requires.plan_sound.0.blocks in
     let u = call.ensures.upper_of.0 in
-    let there = (moved-permutes c.args.perm.now c.args.late.now n c.requires.plan_sound.0.permutes).entries in record { pattern = (
+    let there = (moved-permutes c.args.perm.now c.args.late.now n c.requires.plan_sound.0.permutes).entries in record {
+      pattern = (
         subst (λ (m : ℕ). Pattern m into upper) (sym e) (pattern-of n (links c) into upper few u),
         subst (λ (m : ℕ). Ascends m into upper) (sym e) (ascends-of n (links c) into upper few u),
         subst (Sized (length (take n call.new.heads))) (sym call.ensures.sizes_after)
             (subst (λ (m : ℕ). Sized m (sizes_of c.args.dims.now (moved c.args.perm.now c.args.late.now))) (sym e)
             (sized n c.args.dims.now (moved c.args.perm.now c.args.late.now) c.requires.plan_sound.0.sizes there)),
-      ); stamps_len = (c.requires.plan_sound.1 ∙ sym e, call.auto.inverse ∙ (c.requires.inverse_len.0 ∙ sym e), call.auto.count ∙ (c.requires.inverse_len.2 ∙ sym e)) }
+      );
+      stamps_len = (c.requires.plan_sound.1 ∙ sym e, call.auto.inverse ∙ (c.requires.inverse_len.0 ∙ sym e), call.auto.count ∙ (c.requires.inverse_len.2 ∙ sym e));
+    }
 
 abbrev links-2 : goal.After-slice_known-19-1 → ℕ → ℕ → Bool
 links-2 start = linked_of start.args.starts.now start.args.rows.now start.args.perm.now start.args.late.now

@@ -2,7 +2,6 @@
 use Rattle.std.specs.Prelude.{◌≡◌, ℕ, length}
 use mathlib.Core.Path.{sym, ap, subst, ◌∙◌}
 use native.Mathlib.Omega.{arith}
-use borrow.Author.Rules.{rules}
 use Rattle.elimination_tree.specs.Tree.{linked_up}
 use Rattle.symbolic.specs.Columns.{Sized, Tree, columns_of, numbers_of}
 use Rattle.buckets.specs.Buckets.{lengths}
@@ -14,10 +13,13 @@ pub counts-numbers-requires : goal.counts-numbers-requires
 counts-numbers-requires c =
     let tree = c.new_core in
     let n = length c.args.tree.now in
-    let e : length tree.new.parent ≡ n = tree.auto.parent in record { tree = (
+    let e : length tree.new.parent ≡ n = tree.auto.parent in record {
+      tree = (
         subst (λ (m : ℕ). Tree m c.args.starts.now c.args.rows.now tree.new.parent) (sym e) (record { pattern = c.requires.pattern.0; ascends = c.requires.pattern.1; liu = tree.ensures }),
         subst (λ (m : ℕ). Sized m c.args.sizes.now) (sym e) c.requires.pattern.2,
-      ); stamp_len = (tree.auto.ancestor ∙ c.requires.stamps_len.0 ∙ sym e, c.requires.stamps_len.1 ∙ sym e, c.requires.stamps_len.2 ∙ sym e) }
+      );
+      stamp_len = (tree.auto.ancestor ∙ c.requires.stamps_len.0 ∙ sym e, c.requires.stamps_len.1 ∙ sym e, c.requires.stamps_len.2 ∙ sym e);
+    }
 
 pub add_up-all-requires : goal.add_up-all-requires
 add_up-all-requires c =

@@ -2,7 +2,6 @@
 use Rattle.std.specs.Prelude.{◌≡◌, ℕ, ◌+◌, ◌<◌, List, length, take}
 use mathlib.Core.Path.{sym, ap, subst, ◌∙◌}
 use native.Mathlib.Omega.{arith}
-use borrow.Author.Rules.{rules}
 use Rattle.graph.specs.Links.{linked_in}
 use Rattle.graph.specs.Order.{moved, Permutes}
 use Rattle.graph.proofs.OrderLaws.{moved-permutes}
@@ -34,10 +33,13 @@ upper-entries-requires c =
     let order = c.move_late.new.order in
     let inverse = c.invert.new.inverse in
     let e : length c.args.count.now ≡ n = c.requires.inverse_len.2 in
-    let b = c.requires.heads_len in record { lower = (
+    let b = c.requires.heads_len in record {
+      lower = (
         subst (λ (m : ℕ). Lower m c.args.starts.now c.args.rows.now) (sym e) (as-lower _ _ _ _ _ c.requires.plan_sound),
         subst (λ (m : ℕ). Inverse m order inverse) (c.requires.inverse_len.0 ∙ sym e) c.invert.ensures,
-      ); heads_len = (b.0 ∙ ap (λ (m : ℕ). m + 1) (sym e), b.1 ∙ ap (λ (m : ℕ). m + 1) (sym e), omega (arith, b.2), omega (arith, b.3)) }
+      );
+      heads_len = (b.0 ∙ ap (λ (m : ℕ). m + 1) (sym e), b.1 ∙ ap (λ (m : ℕ). m + 1) (sym e), omega (arith, b.2), omega (arith, b.3));
+    }
 
 pub sizes-requires : goal.sizes-requires
 sizes-requires c =
@@ -55,8 +57,11 @@ returns c =
     let starts = c.args.starts.now in
     let rows = c.args.rows.now in
     let into = upper.new.into in
-    let out = take upper.result upper.new.out in record { upper_of = (
+    let out = take upper.result upper.new.out in record {
+      upper_of = (
         subst (λ (l : List ℕ). UpperOf (length c.args.dims.now) (linked_in starts rows l) into out) call.ensures
             (subst (λ (m : ℕ). UpperOf m (linked_in starts rows order) into out) c.requires.inverse_len.2 upper.ensures.upper_of),
         upper.ensures.upper_bound.0,
-      ); sizes_after = c.sizes.ensures ∙ ap (sizes_of c.args.dims.now) call.ensures }
+      );
+      sizes_after = c.sizes.ensures ∙ ap (sizes_of c.args.dims.now) call.ensures;
+    }

@@ -2,7 +2,6 @@
 use Rattle.std.specs.Prelude.{ℕ, ◌+◌, length}
 use mathlib.Core.Path.{sym, ap, subst, ◌∙◌}
 use native.Mathlib.Omega.{arith}
-use borrow.Author.Rules.{rules}
 use Rattle.elimination_tree.specs.Tree.{linked_up}
 use Rattle.buckets.specs.Buckets.{Laid}
 use Rattle.symbolic.specs.Columns.{columns_of}
@@ -30,8 +29,12 @@ fill-requires c =
     let few = c.requires.tree.0.pattern.few in
     let e = c.requires.tree.1 in
     let sums = c.sums in
-    let heads = sums.new.starts in record { tree = c.requires.tree.0; stamp_len = (c.requires.stamps_len.0, c.requires.stamps_len.1, counts_length starts rows n count few e); laid = subst (Laid (columns_of starts rows n) heads) (sums.ensures.value ∙ (stored-before (linked_up starts rows) n count e ∙ sym c.requires.l_rows_len))
-            (layout_laid starts rows n count few e heads sums.result (sums.auto.starts ∙ c.requires.stamps_len.2) sums.ensures.value sums.ensures.by_index_2) }
+    let heads = sums.new.starts in record {
+      tree = c.requires.tree.0;
+      stamp_len = (c.requires.stamps_len.0, c.requires.stamps_len.1, counts_length starts rows n count few e);
+      laid = subst (Laid (columns_of starts rows n) heads) (sums.ensures.value ∙ (stored-before (linked_up starts rows) n count e ∙ sym c.requires.l_rows_len))
+          (layout_laid starts rows n count few e heads sums.result (sums.auto.starts ∙ c.requires.stamps_len.2) sums.ensures.value sums.ensures.by_index_2);
+    }
 
 pub returns : goal.returns
 returns c =

@@ -1,11 +1,7 @@
 -- `backward::cores::backward` meets its contract: the invariant: the last t columns are done. Assumes nothing.
 use Rattle.std.specs.Prelude.{◌≡◌, ◌-◌, ◌≤◌, length}
-use mathlib.Core.Path.{refl, sym, subst, ◌∙◌}
-use native.Mathlib.Omega.{arith}
-use borrow.Author.Rules.{rules}
-use Rattle.layout.specs.Layout.{Tables, tables}
-use Rattle.solution.specs.Flat.{BlocksLaid}
-use Rattle.backward.proofs.BackwardLaws.{Turned, columns_none, columns_more, columns_all}
+use Rattle.layout.specs.Layout.{tables}
+use Rattle.backward.proofs.BackwardLaws.{Turned}
 use Rattle.backward.proofs.cores.backward.Given as goal
 
 abbrev pub invariant-loop-t : goal.invariant-loop-t

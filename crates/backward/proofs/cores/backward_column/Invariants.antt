@@ -1,13 +1,7 @@
 -- `backward::cores::backward_column` meets its contract: the invariant: the rows before place u are done (`UpTo`). Assumes nothing.
-use Rattle.std.specs.Prelude.{◌≡◌, ◌+◌, ◌-◌, ◌≤◌, length}
-use mathlib.Core.Path.{refl, sym, subst, ◌∙◌}
-use native.Mathlib.Omega.{arith}
-use borrow.Author.Rules.{rules}
-use Rattle.tables.specs.Verdict.{at}
-use Rattle.layout.specs.Layout.{Tables, tables}
-use Rattle.solution.specs.Flat.{BlocksLaid}
-use Rattle.solution.proofs.VectorLaws.{row_fits}
-use Rattle.backward.proofs.BackwardLaws.{UpTo, up_none, up_more, up_all}
+use Rattle.std.specs.Prelude.{◌≡◌, ◌-◌, ◌≤◌, length}
+use Rattle.layout.specs.Layout.{tables}
+use Rattle.backward.proofs.BackwardLaws.{UpTo}
 use Rattle.backward.proofs.cores.backward_column.Given as goal
 
 abbrev pub invariant-loop-u : goal.invariant-loop-u

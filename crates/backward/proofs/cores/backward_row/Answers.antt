@@ -1,6 +1,5 @@
 -- `backward::cores::backward_row` meets its contract: the part of the vector is as the product left it. Assumes nothing.
 use native.Mathlib.Nat.{add-sub_cancel_left}
-use borrow.Author.Rules.{rules}
 use Rattle.backward.proofs.cores.backward_row.Goals as goal
 
 pub returns : goal.returns

@@ -2,7 +2,6 @@
 use Rattle.std.specs.Prelude.{◌≡◌, ◌*◌, length}
 use mathlib.Core.Path.{ap, sym, ◌∙◌}
 use native.Mathlib.Omega.{arith}
-use borrow.Author.Rules.{rules}
 use Rattle.block_diag_ldlt.specs.Block.{settle, block_ldlt}
 use Rattle.block_diag_ldlt.proofs.cores.decompose_core.Goals as goal
 

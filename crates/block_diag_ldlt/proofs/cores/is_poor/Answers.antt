@@ -1,6 +1,4 @@
 -- `block_diag_ldlt::cores::is_poor` meets its contract: by the three kinds. Assumes nothing.
-use borrow.Author.Rules.{rules}
-use Rattle.block_diag_ldlt.specs.Block.{is_poor}
 use Rattle.block_diag_ldlt.proofs.cores.is_poor.Goals as goal
 
 pub returns-in-Indefinite : goal.returns-in-Indefinite

@@ -3,7 +3,6 @@ use Rattle.std.specs.Prelude.{◌+◌, ◌*◌, ◌≤◌, length}
 use mathlib.Core.Path.{sym, ap, subst, ◌∙◌}
 use native.Mathlib.Nat.{add-sub_cancel_left}
 use native.Mathlib.Omega.{arith}
-use borrow.Author.Rules.{rules}
 use borrow.Rule.Slice.PartMut.{mid_len}
 use Rattle.scalar.proofs.Laws.{area-fits}
 use Rattle.tables.specs.Verdict.{at}
@@ -26,9 +25,12 @@ returns c =
     let b = c.ldlt_solve_core in
     let o = at x.starts.now x.j in
     let w = at x.sizes.now x.j in
-    let e = simp add-sub_cancel_left at b.ensures in record { value = ap (λ u. u + w * w) c.requires.j_in_bounds.1 ∙ unit-next x.sizes.now x.j c.requires.j_in_bounds.0; solves_block = block-done x.sizes.now x.starts.now x.diag.now x.d.now x.j x.unit x.y.now _ c.requires.starts_value.0 c.requires.starts_value.2 c.requires.j_in_bounds.0 c.requires.j_in_bounds.1
+    let e = simp add-sub_cancel_left at b.ensures in record {
+      value = ap (λ u. u + w * w) c.requires.j_in_bounds.1 ∙ unit-next x.sizes.now x.j c.requires.j_in_bounds.0;
+      solves_block = block-done x.sizes.now x.starts.now x.diag.now x.d.now x.j x.unit x.y.now _ c.requires.starts_value.0 c.requires.starts_value.2 c.requires.j_in_bounds.0 c.requires.j_in_bounds.1
           (sym (ap length e) ∙ b.auto.x ∙ mid_len o (o + w) x.y.now (fits c).0 ∙ add-sub_cancel_left _ _)
-          (rw (e, add-sub_cancel_left)) }
+          (rw (e, add-sub_cancel_left));
+    }
 
 pub overflow_cast-w : goal.overflow_cast-w
 overflow_cast-w c = omega (arith, c.shared_slice_known-5-1.given c.args.j)

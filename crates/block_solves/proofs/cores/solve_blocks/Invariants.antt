@@ -1,13 +1,8 @@
 -- `block_solves::cores::solve_blocks` meets its contract: the invariant: the first j blocks are solved. Assumes nothing.
 use Rattle.std.specs.Prelude.{◌≡◌, ◌-◌, ◌≤◌, length}
-use mathlib.Core.Path.{refl, sym, subst, ◌∙◌}
-use native.Mathlib.Omega.{arith}
-use borrow.Author.Rules.{rules}
 use Rattle.tables.specs.Verdict.{at}
 use Rattle.layout.specs.Layout.{unit_starts_of}
-use Rattle.solution.specs.Flat.{BlocksLaid}
 use Rattle.block_solves.specs.Blocks.{Solves}
-use Rattle.block_solves.proofs.BlockLaws.{unit-first, blocks-none, blocks_more, blocks-all}
 use Rattle.block_solves.proofs.cores.solve_blocks.Given as goal
 
 abbrev pub invariant-loop-j : goal.invariant-loop-j

@@ -195,10 +195,14 @@ apply_rows-requires c =
     let e : length q ≡ h * w = m.auto.q ∙ length-take-le (h * w) x.qj.now c.requires.factors_fit.scaled in
     let u = at x.unit_starts.now x.k in
     let f = c.requires.factors_fit in
-    let g : length (slot x.from (x.end - x.from) x.l_rows.now) ≡ x.end - x.from = mid_len x.from x.end x.l_rows.now c.requires.places_fit.in_tables.0 in record { rows_fit = rows_fit (tables c) x.j x.k x.from x.end (omega (arith, c.requires.from_lt_end)) _ _ _ c.requires.places_fit; j_in_bounds = (f.known.0, f.known.1, f.known.4, omega (arith, c.requires.from_lt_end, g)); unit_len = (
-          mid_len u (u + w * w) x.diag.now f.unit ∙ add-sub_cancel_left _ _,
-          ap length (take_at q (drop (h * w) x.qj.now) (h * w) e) ∙ e,
-        ) }
+    let g : length (slot x.from (x.end - x.from) x.l_rows.now) ≡ x.end - x.from = mid_len x.from x.end x.l_rows.now c.requires.places_fit.in_tables.0 in record {
+      rows_fit = rows_fit (tables c) x.j x.k x.from x.end (omega (arith, c.requires.from_lt_end)) _ _ _ c.requires.places_fit;
+      j_in_bounds = (f.known.0, f.known.1, f.known.4, omega (arith, c.requires.from_lt_end, g));
+      unit_len = (
+        mid_len u (u + w * w) x.diag.now f.unit ∙ add-sub_cancel_left _ _,
+        ap length (take_at q (drop (h * w) x.qj.now) (h * w) e) ∙ e,
+      );
+    }
 
 pub shape_of-qj : goal.shape_of-qj
 shape_of-qj c = search rules

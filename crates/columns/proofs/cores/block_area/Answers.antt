@@ -1,5 +1,4 @@
 -- `columns::cores::block_area` meets its contract: a product of two dimensions, each at most 16. Assumes nothing.
-use borrow.Author.Rules.{rules}
 use Rattle.std.specs.Prelude.{◌≤◌}
 use native.Mathlib.Nat.{mul-le-mul}
 use native.Mathlib.Omega.{arith}

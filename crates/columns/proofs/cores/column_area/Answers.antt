@@ -1,9 +1,7 @@
 -- `columns::cores::column_area` meets its contract: a sum, one turn a place; no term is above 256. Assumes nothing.
-use Rattle.std.specs.Prelude.{◌-◌}
 use native.Mathlib.Omega.{arith}
 use Rattle.tables.proofs.AreaLaws.{part-le}
-use Rattle.tables.specs.Verdict.{block_area}
-use Rattle.tables.proofs.SearchLaws.{Summed, summed, added, added-le, all-added}
+use Rattle.tables.proofs.SearchLaws.{summed, added, added-le, all-added}
 use Rattle.columns.proofs.cores.column_area.Goals as goal
 
 pub loop-i-init : goal.loop-i-init

@@ -1,12 +1,7 @@
 -- `columns::cores::first_fall` meets its contract: the search goes one column after the other. Assumes nothing.
-use Rattle.std.specs.Prelude.{◌≡◌, ℕ, ◌+◌, ◌-◌, ◌≤◌, Bool, length}
-use Prim.Native.Nat.{zero-le}
-use native.Mathlib.Omega.{arith}
-use borrow.Author.Rules.{rules}
-use Rattle.tables.specs.Search.{first}
-use Rattle.tables.specs.Verdict.{at, order_ok, order_fits}
-use Rattle.tables.proofs.SearchLaws.{Searched, searched, ended}
-use Rattle.tables.proofs.ColumnLaws.{column-failed, column-passed}
+use Rattle.std.specs.Prelude.{◌-◌, ◌≤◌, length}
+use Rattle.tables.specs.Verdict.{at, order_fits}
+use Rattle.tables.proofs.SearchLaws.{Searched}
 use Rattle.columns.proofs.cores.first_fall.Given as goal
 
 abbrev pub invariant-loop-j : goal.invariant-loop-j

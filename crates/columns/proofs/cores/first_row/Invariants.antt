@@ -1,13 +1,8 @@
 -- `columns::cores::first_row` meets its contract: the search goes one column after the other. Assumes nothing.
-use Rattle.std.specs.Prelude.{◌≡◌, ℕ, ◌+◌, ◌-◌, ◌≤◌, Bool, length}
-use Prim.Native.Nat.{zero-le}
-use native.Mathlib.Omega.{arith}
-use borrow.Author.Rules.{rules}
-use Rattle.tables.specs.Search.{first}
-use Rattle.tables.specs.Verdict.{at, row_ok, row_fits}
+use Rattle.std.specs.Prelude.{◌-◌, ◌≤◌, length}
+use Rattle.tables.specs.Verdict.{at, row_fits}
 use Rattle.columns.specs.Least.{least_row}
-use Rattle.tables.proofs.SearchLaws.{Searched, searched, ended}
-use Rattle.tables.proofs.ColumnLaws.{column-failed, column-passed}
+use Rattle.tables.proofs.SearchLaws.{Searched}
 use Rattle.columns.proofs.cores.first_row.Given as goal
 
 abbrev pub invariant-loop-j : goal.invariant-loop-j

@@ -1,8 +1,7 @@
 -- `columns::cores::first_row_in` meets its contract: a search, one turn a place. Assumes nothing.
-use Rattle.std.specs.Prelude.{◌-◌}
 use native.Mathlib.Omega.{arith}
 use Rattle.tables.specs.Verdict.{row_ok}
-use Rattle.tables.proofs.SearchLaws.{Searched, searched, passed, failed, ended}
+use Rattle.tables.proofs.SearchLaws.{searched, passed, failed, ended}
 use Rattle.columns.proofs.cores.first_row_in.Goals as goal
 
 pub loop-i-init : goal.loop-i-init

@@ -1,8 +1,7 @@
 -- `columns::cores::first_row_in` meets its contract: a search, one turn a place. Assumes nothing.
 use Rattle.std.specs.Prelude.{◌-◌}
-use native.Mathlib.Omega.{arith}
 use Rattle.tables.specs.Verdict.{row_ok}
-use Rattle.tables.proofs.SearchLaws.{Searched, searched, passed, failed, ended}
+use Rattle.tables.proofs.SearchLaws.{Searched}
 use Rattle.columns.proofs.cores.first_row_in.Given as goal
 
 abbrev pub invariant-loop-i : goal.invariant-loop-i

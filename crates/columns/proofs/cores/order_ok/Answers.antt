@@ -1,5 +1,4 @@
 -- `columns::cores::order_ok` meets its contract: the code's two comparisons are the definition's. Assumes nothing.
-use borrow.Author.Rules.{rules}
 use borrow.Author.Tests.{le-leb, lt-leb}
 use Rattle.tables.specs.Verdict.{order_ok}
 use Rattle.columns.proofs.cores.order_ok.Goals as goal

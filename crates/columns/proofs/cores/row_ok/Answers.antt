@@ -1,5 +1,4 @@
 -- `columns::cores::row_ok` meets its contract: the code's two comparisons are the definition's. Assumes nothing.
-use borrow.Author.Rules.{rules}
 use borrow.Author.Tests.{le-leb, lt-leb}
 use Rattle.tables.specs.Verdict.{row_ok}
 use Rattle.columns.proofs.cores.row_ok.Goals as goal

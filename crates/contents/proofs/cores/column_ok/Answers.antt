@@ -1,7 +1,6 @@
 -- `contents::cores::column_ok` meets its contract: the code's tests are the definition's. Assumes nothing.
 use borrow.Author.Tests.{lt-ltb, le-ltb, eq-eqb, ne_eqb}
 use Rattle.contents.specs.Contents.{column_fits}
-use borrow.Author.Rules.{rules}
 use Rattle.contents.proofs.cores.column_ok.Goals as goal
 
 pub returns-then-n-x : goal.returns-then-n-x

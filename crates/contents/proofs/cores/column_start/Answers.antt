@@ -1,11 +1,9 @@
 -- `contents::cores::column_start` meets its contract: a search, one turn a place. Assumes nothing.
-use Rattle.std.specs.Prelude.{ℕ, ◌-◌, ltb, length}
+use Rattle.std.specs.Prelude.{ℕ, ltb}
 use mathlib.Core.Path.{ap}
 use native.Mathlib.Omega.{arith}
 use borrow.Author.Tests.{lt-ltb, le-ltb}
-use Rattle.tables.proofs.SearchLaws.{Searched, searched, passed, failed, ended}
-use Rattle.contents.specs.Contents.{before}
-use borrow.Author.Rules.{rules}
+use Rattle.tables.proofs.SearchLaws.{searched, passed, failed, ended}
 use Rattle.contents.proofs.cores.column_start.Goals as goal
 
 pub loop-i-init : goal.loop-i-init

@@ -1,11 +1,7 @@
 -- `contents::cores::column_start` meets its contract: a search, one turn a place. Assumes nothing.
-use Rattle.std.specs.Prelude.{ℕ, ◌-◌, ltb, length}
-use mathlib.Core.Path.{ap}
-use native.Mathlib.Omega.{arith}
-use borrow.Author.Tests.{lt-ltb, le-ltb}
-use Rattle.tables.proofs.SearchLaws.{Searched, searched, passed, failed, ended}
+use Rattle.std.specs.Prelude.{◌-◌, length}
+use Rattle.tables.proofs.SearchLaws.{Searched}
 use Rattle.contents.specs.Contents.{before}
-use borrow.Author.Rules.{rules}
 use Rattle.contents.proofs.cores.column_start.Given as goal
 
 abbrev pub invariant-loop-i : goal.invariant-loop-i

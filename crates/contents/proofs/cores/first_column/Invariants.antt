@@ -1,10 +1,7 @@
 -- `contents::cores::first_column` meets its contract: a search, one turn a place. Assumes nothing.
 use Rattle.std.specs.Prelude.{◌-◌, length}
-use Prim.Native.Nat.{zero-le}
-use native.Mathlib.Omega.{arith}
-use Rattle.tables.proofs.SearchLaws.{Searched, searched, passed, failed, ended}
+use Rattle.tables.proofs.SearchLaws.{Searched}
 use Rattle.contents.specs.Contents.{column_fits}
-use borrow.Author.Rules.{rules}
 use Rattle.contents.proofs.cores.first_column.Given as goal
 
 abbrev pub invariant-loop-i : goal.invariant-loop-i

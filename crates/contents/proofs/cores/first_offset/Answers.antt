@@ -1,16 +1,14 @@
 -- `contents::cores::first_offset` meets its contract: a search, one turn an entry, with the numbers of the bodies passed.
 -- Assumes nothing.
-use Rattle.std.specs.Prelude.{◌≡◌, ℕ, ◌+◌, ◌-◌, ◌*◌, ◌<◌, ◌≤◌, true, false, length}
+use Rattle.std.specs.Prelude.{◌≡◌, ℕ, ◌+◌, ◌*◌, ◌<◌, ◌≤◌, true, false, length}
 use Prim.Native.Nat.{zero-le}
 use mathlib.Core.Path.{refl, sym, ◌∙◌, ap}
 use native.Mathlib.Omega.{arith}
 use Rattle.tables.specs.Verdict.{at, area_at, block_area}
-use Rattle.tables.proofs.SearchLaws.{Searched, searched, passed, failed, ended}
-use Rattle.scalars.specs.Bodies.{offset_at}
+use Rattle.tables.proofs.SearchLaws.{searched, passed, failed, ended}
 use Rattle.scalars.proofs.BodyLaws.{offset-first, offset-next}
-use Rattle.contents.specs.Contents.{starts_from, offset_fits}
+use Rattle.contents.specs.Contents.{starts_from}
 use Rattle.contents.proofs.Laws.{area-is, area_small, offset-hits, offset-misses}
-use borrow.Author.Rules.{rules}
 use Rattle.contents.proofs.cores.first_offset.Goals as goal
 
 pub loop-p-init : goal.loop-p-init

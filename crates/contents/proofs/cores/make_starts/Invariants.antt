@@ -1,15 +1,8 @@
 -- `contents::cores::make_starts` meets its contract: the columns passed have their starts, and all before the place reached is of
 -- columns before the next. Assumes nothing.
 use Rattle.std.specs.Prelude.{◌≡◌, ℕ, ◌-◌, ◌<◌, ◌≤◌, length}
-use mathlib.Core.Path.{◌∙◌}
-use native.Mathlib.Omega.{arith}
-use borrow.Author.Count.{below_more}
-use lib.ListN.{length-set}
-use lib.Seq.{get_or-set_same, get_or-set_other}
-use borrow.Author.Rules.{rules}
 use Rattle.tables.specs.Verdict.{at}
 use Rattle.contents.specs.Contents.{start_at}
-use Rattle.contents.proofs.Laws.{start-from, start-le, start-before, starts-filled}
 use Rattle.contents.proofs.cores.make_starts.Given as goal
 
 abbrev pub invariant-loop-j : goal.invariant-loop-j

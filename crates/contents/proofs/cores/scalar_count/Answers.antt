@@ -1,12 +1,11 @@
 -- `contents::cores::scalar_count` meets its contract: a sum, one turn a block; no dimension is above 16. Assumes nothing.
-use Rattle.std.specs.Prelude.{◌≡◌, ◌-◌, ◌*◌, ◌≤◌, length}
+use Rattle.std.specs.Prelude.{◌≡◌, ◌≤◌, length}
 use Prim.Native.Nat.{zero-le}
 use mathlib.Core.Path.{sym, ap, ◌∙◌}
 use native.Mathlib.Omega.{arith}
 use Rattle.buckets.specs.Buckets.{before}
 use Rattle.buckets.proofs.Turns.{before-next}
 use Rattle.scalars.proofs.ScalarLaws.{nothing-before}
-use borrow.Author.Rules.{rules}
 use Rattle.contents.proofs.cores.scalar_count.Goals as goal
 
 pub loop-k-init : goal.loop-k-init

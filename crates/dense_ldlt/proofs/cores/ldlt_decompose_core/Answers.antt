@@ -1,16 +1,15 @@
 -- `dense_ldlt::cores::ldlt_decompose_core` meets its contract: the state of the definition is `going` with the block and the d of the rows done. Where the loop is left early it is `stopped`, which no later row changes. Assumes nothing.
-use Rattle.std.specs.Prelude.{◌≡◌, ◌+◌, ◌-◌, ◌*◌, ◌≤◌, [], ◌∷◌, ◌++◌, length, take, set}
+use Rattle.std.specs.Prelude.{◌≡◌, ◌+◌, ◌*◌, [], ◌∷◌, ◌++◌, length, take, set}
 use mathlib.Core.Path.{refl, ◌∙◌, ap, sym}
 use native.Mathlib.Nat.{le_trans}
 use native.Mathlib.Numerals.{add-one}
 use native.Mathlib.Omega.{arith}
 use lib.Seq.{take-suc-set, take_all, length-take-le}
 use borrow.Author.Rules.{rules}
-use borrow.Author.Tests.{not-true, not-false}
 use Rattle.scalar.specs.Loop.{steps}
-use Rattle.scalar.proofs.Laws.{steps_next, steps_all, steps-stuck, kernels}
+use Rattle.scalar.proofs.Laws.{steps_next, steps_all, steps-stuck}
 use Rattle.dense_pivots.specs.Pivots.{pivots_of}
-use Rattle.dense_ldlt.specs.Ldlt.{ldlt, ldlt_row, going, finish}
+use Rattle.dense_ldlt.specs.Ldlt.{ldlt, ldlt_row, finish}
 use Rattle.dense_pivots.proofs.PivotLaws.{rank-grows, account-more, account-all}
 use Rattle.dense_ldlt.proofs.RowLaws.{goes_on, stops}
 use Rattle.dense_ldlt.proofs.cores.ldlt_decompose_core.Goals as goal

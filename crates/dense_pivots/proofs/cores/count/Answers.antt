@@ -1,5 +1,4 @@
 -- `dense_pivots::cores::count` meets its contract: each return rewrites the definition with the test that led there; `cc` joins the fields of the record. Assumes nothing.
-use borrow.Author.Rules.{rules}
 use Rattle.dense_pivots.specs.Pivots.{counted}
 use Rattle.dense_pivots.proofs.cores.count.Goals as goal
 

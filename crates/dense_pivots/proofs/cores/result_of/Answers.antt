@@ -1,5 +1,4 @@
 -- `dense_pivots::cores::result_of` meets its contract: each field is what its function gives. Assumes nothing.
-use borrow.Author.Rules.{rules}
 use Rattle.dense_pivots.proofs.cores.result_of.Goals as goal
 
 pub returns : goal.returns

@@ -1,10 +1,6 @@
 -- `dense_rows::cores::clear_upper` meets its contract: the invariants say how far the two loops of the definition are; `search` finds the rest. Assumes nothing.
-use Rattle.std.specs.Prelude.{◌≡◌, ◌+◌, ◌-◌, ◌*◌, ◌≤◌, length}
-use Rattle.scalar.specs.Loop.{steps}
-use Rattle.scalar.specs.Block.{put}
-use Rattle.scalar.specs.Scalar.{nought}
 use Rattle.scalar.proofs.Laws.{kernels}
-use Rattle.dense_rows.specs.Row.{clear_row, clear_upper}
+use Rattle.dense_rows.specs.Row.{clear_upper}
 use Rattle.dense_rows.proofs.cores.clear_upper.Goals as goal
 
 pub returns : goal.returns

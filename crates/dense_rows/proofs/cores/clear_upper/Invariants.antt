@@ -3,8 +3,7 @@ use Rattle.std.specs.Prelude.{◌≡◌, ◌+◌, ◌-◌, ◌*◌, ◌≤◌, l
 use Rattle.scalar.specs.Loop.{steps}
 use Rattle.scalar.specs.Block.{put}
 use Rattle.scalar.specs.Scalar.{nought}
-use Rattle.scalar.proofs.Laws.{kernels}
-use Rattle.dense_rows.specs.Row.{clear_row, clear_upper}
+use Rattle.dense_rows.specs.Row.{clear_row}
 use Rattle.dense_rows.proofs.cores.clear_upper.Given as goal
 
 abbrev pub invariant-loop-u : goal.invariant-loop-u

@@ -1,15 +1,8 @@
 -- `dense_rows::cores::divide_row` meets its contract: a turn stores what `divided` gives of what `reduced` gives, and the pivot so far reads no entry that a later turn stores. Assumes nothing.
-use Rattle.std.specs.Prelude.{◌≡◌, ℕ, ◌+◌, ◌-◌, ◌*◌, ◌<◌, ◌≤◌, List, length, get_or}
-use mathlib.Core.Path.{◌∙◌}
-use native.Mathlib.Nat.{eq_of_mul-eq-mul_right}
-use native.Mathlib.Omega.{arith}
-use lib.Ieee.{Float, nan, binary64, mul}
-use lib.Seq.{get_or-set_same, get_or-set_other}
-use borrow.Author.Rules.{rules}
+use Rattle.std.specs.Prelude.{◌≡◌, ◌-◌, ◌*◌, ◌≤◌, length}
 use Rattle.scalar.specs.Loop.{steps}
-use Rattle.scalar.specs.Block.{at, put, lose}
+use Rattle.scalar.specs.Block.{at}
 use Rattle.dense_rows.specs.Row.{divide_entry, lose_pivot}
-use Rattle.scalar.proofs.Laws.{steps_next, steps-same, column, kernels}
 use Rattle.dense_rows.proofs.cores.divide_row.Given as goal
 
 abbrev pub invariant-loop-k : goal.invariant-loop-k

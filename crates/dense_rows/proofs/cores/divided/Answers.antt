@@ -1,5 +1,4 @@
 -- `dense_rows::cores::divided` meets its contract: each arm returns what `cond` picks. Assumes nothing.
-use borrow.Author.Rules.{rules}
 use Rattle.dense_rows.specs.Row.{divided_by}
 use Rattle.dense_rows.proofs.cores.divided.Goals as goal
 

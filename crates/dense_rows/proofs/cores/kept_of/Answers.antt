@@ -1,5 +1,4 @@
 -- `dense_rows::cores::kept_of` meets its contract: each arm returns what `cond` picks. Assumes nothing.
-use borrow.Author.Rules.{rules}
 use Rattle.dense_rows.specs.Row.{stored}
 use Rattle.dense_rows.proofs.cores.kept_of.Goals as goal
 

@@ -1,9 +1,5 @@
 -- `dense_rows::cores::reduced` meets its contract: a turn's result is the definition's by what `entry` ensures, which `cc` finds. Assumes nothing.
-use Rattle.std.specs.Prelude.{◌≡◌, ◌-◌, ◌≤◌}
 use borrow.Author.Rules.{rules}
-use Rattle.scalar.specs.Loop.{steps}
-use Rattle.scalar.specs.Block.{at}
-use Rattle.dense_rows.specs.Row.{lose_scaled}
 use Rattle.scalar.proofs.Laws.{steps_next, kernels}
 use Rattle.dense_rows.proofs.cores.reduced.Goals as goal
 

@@ -1,10 +1,7 @@
 -- `dense_solve::cores::divided_transpose_core` meets its contract: as `kernel_lower_transpose::cores::lower_transpose_solve_core`, but that the
 -- numbers before the rows done are not divided yet. Assumes nothing.
 use Rattle.std.specs.Prelude.{◌≡◌, ◌-◌, ◌≤◌, length}
-use native.Mathlib.Omega.{arith}
-use borrow.Author.Rules.{rules}
-use Rattle.scalar.proofs.Laws.{steps_next, steps_all, kernels}
-use Rattle.dense_solve.proofs.Division.{quotient_at, loses, Ahead, ahead_none, ahead_more, ahead_all}
+use Rattle.dense_solve.proofs.Division.{quotient_at, loses, Ahead}
 use Rattle.dense_solve.proofs.cores.divided_transpose_core.Given as goal
 
 abbrev pub invariant-loop-u : goal.invariant-loop-u

@@ -1,5 +1,4 @@
 -- `dense_solve::cores::ldlt_matsolve_core` meets its contract: the three kernels in their order. Assumes nothing.
-use borrow.Author.Rules.{rules}
 use Rattle.dense_solve.specs.Solve.{ldlt_matsolve}
 use Rattle.dense_solve.proofs.cores.ldlt_matsolve_core.Goals as goal
 

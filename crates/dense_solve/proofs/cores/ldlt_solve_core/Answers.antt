@@ -1,5 +1,4 @@
 -- `dense_solve::cores::ldlt_solve_core` meets its contract: forward, then the diagonal and backward in one. Assumes nothing.
-use borrow.Author.Rules.{rules}
 use Rattle.dense_solve.specs.Solve.{ldlt_solve}
 use Rattle.dense_solve.proofs.cores.ldlt_solve_core.Goals as goal
 

@@ -1,5 +1,4 @@
 -- `dense_solve::cores::solve_shapes` meets its contract: one check after the other. Assumes nothing.
-use borrow.Author.Rules.{rules}
 use Rattle.dense_solve.specs.Solve.{solve_verdict}
 use Rattle.dense_solve.proofs.cores.solve_shapes.Goals as goal
 

@@ -1,5 +1,4 @@
 -- `dense_solve_right::cores::ldlt_right_matsolve_core` meets its contract: the three kernels in their order. Assumes nothing.
-use borrow.Author.Rules.{rules}
 use Rattle.dense_solve_right.specs.SolveRight.{ldlt_right_matsolve}
 use Rattle.dense_solve_right.proofs.cores.ldlt_right_matsolve_core.Goals as goal
 

@@ -1,5 +1,4 @@
 -- `dense_solve_right::cores::right_shapes` meets its contract: one check after the other. Assumes nothing.
-use borrow.Author.Rules.{rules}
 use Rattle.dense_solve_right.specs.SolveRight.{right_verdict}
 use Rattle.dense_solve_right.proofs.cores.right_shapes.Goals as goal
 

@@ -1,6 +1,5 @@
 -- `digits::cores::digit` meets its contract: below ten, and from ten on. Assumes nothing.
 use borrow.Author.Tests.{lt-ltb, le-ltb}
-use borrow.Author.Rules.{rules}
 use Rattle.digits.proofs.cores.digit.Goals as goal
 
 pub returns-then-d-lt10 : goal.returns-then-d-lt10

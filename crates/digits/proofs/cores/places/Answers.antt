@@ -1,13 +1,12 @@
 -- `digits::cores::places` meets its contract: a search over the powers of ten. Assumes nothing.
-use Rattle.std.specs.Prelude.{◌≡◌, ◌-◌, ◌*◌, ◌^◌, ◌<◌, ◌≤◌, true, false, leb}
+use Rattle.std.specs.Prelude.{◌*◌, ◌^◌, ◌<◌, ◌≤◌, true, false}
 use mathlib.Core.Path.{refl, sym}
 use native.Mathlib.Nat.{div-lt_iff_lt-mul, le-div_iff_mul-le, pow-suc}
 use native.Mathlib.Numerals.{add-one}
 use native.Mathlib.Omega.{arith}
 use borrow.Author.Tests.{le-leb, lt-leb}
-use Rattle.tables.proofs.SearchLaws.{Searched, searched, passed, failed, ended}
+use Rattle.tables.proofs.SearchLaws.{searched, passed, failed, ended}
 use Rattle.digits.specs.Digits.{places}
-use borrow.Author.Rules.{rules}
 use Rattle.digits.proofs.cores.places.Goals as goal
 
 pub loop-k-init : goal.loop-k-init

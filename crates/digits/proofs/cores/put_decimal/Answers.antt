@@ -4,7 +4,6 @@ use mathlib.Core.Path.{sym, ap, ◌∙◌}
 use native.Mathlib.Omega.{arith}
 use Rattle.digits.specs.Digits.{digits, places, decimal, written}
 use Rattle.digits.proofs.Laws.{length_digits}
-use borrow.Author.Rules.{rules}
 use Rattle.digits.proofs.cores.put_decimal.Goals as goal
 
 -- how many digits there are

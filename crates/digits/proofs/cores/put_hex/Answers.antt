@@ -2,7 +2,6 @@
 use Rattle.std.specs.Prelude.{ℕ, ◌+◌}
 use mathlib.Core.Path.{sym, ap}
 use Rattle.digits.proofs.Laws.{length_digits}
-use borrow.Author.Rules.{rules}
 use Rattle.digits.proofs.cores.put_hex.Goals as goal
 
 pub returns : goal.returns

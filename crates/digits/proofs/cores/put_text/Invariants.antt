@@ -1,11 +1,6 @@
 -- `digits::cores::put_text` meets its contract: the first i bytes are copied. Assumes nothing.
-use Rattle.std.specs.Prelude.{◌≡◌, ℕ, ◌+◌, ◌-◌, ◌≤◌, List, ◌++◌, length, get_or, take, drop, set}
-use mathlib.Core.Path.{refl, ap, ◌∙◌}
-use native.Mathlib.Numerals.{add-one}
-use native.Mathlib.Omega.{arith}
-use borrow.Author.Rules.{rules}
-use lib.ListN.{length-set}
-use lib.Seq.{paste, paste-zero, paste-suc, take-length}
+use Rattle.std.specs.Prelude.{◌≡◌, ◌-◌, ◌≤◌, length}
+use lib.Seq.{paste}
 use Rattle.digits.proofs.cores.put_text.Given as goal
 
 abbrev pub invariant-loop-i : goal.invariant-loop-i

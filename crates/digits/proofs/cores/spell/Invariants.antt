@@ -1,12 +1,6 @@
 -- `digits::cores::spell` meets its contract: what is written with what is left to write is the whole. Assumes nothing.
-use Rattle.std.specs.Prelude.{◌≡◌, ℕ, suc, ◌+◌, ◌-◌, ◌/◌, ◌≤◌, ◌++◌, length, take, drop, set}
-use mathlib.Core.Path.{refl, sym, ap, ◌∙◌}
-use native.Mathlib.Nat.{mod-lt}
-use native.Mathlib.Omega.{arith}
-use borrow.Author.Rules.{rules}
-use lib.ListN.{length-set}
-use Rattle.digits.specs.Digits.{digits}
-use Rattle.digits.proofs.Laws.{spelt, spelt-more, spelt-all, length_digits}
+use Rattle.std.specs.Prelude.{◌≡◌, ◌≤◌, length}
+use Rattle.digits.proofs.Laws.{spelt}
 use Rattle.digits.proofs.cores.spell.Given as goal
 
 abbrev pub invariant-loop-i : goal.invariant-loop-i

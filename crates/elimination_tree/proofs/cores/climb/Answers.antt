@@ -1,10 +1,9 @@
 -- `elimination_tree::cores::climb` meets its contract. The invariant is `Walking`, and each answer names the law for its way. Assumes nothing.
-use Rattle.std.specs.Prelude.{◌-◌, ◌<◌, length}
+use Rattle.std.specs.Prelude.{◌<◌, length}
 use mathlib.Core.Path.{◌∙◌}
 use native.Mathlib.Omega.{arith}
-use borrow.Author.Rules.{rules}
 use lib.ListN.{length-set}
-use Rattle.elimination_tree.proofs.Turns.{Walking, begins, turns, further, roots, ends, climbs-set}
+use Rattle.elimination_tree.proofs.Turns.{begins, turns, further, roots, ends, climbs-set}
 use Rattle.elimination_tree.proofs.cores.climb.Goals as goal
 
 pub loop-i-init : goal.loop-i-init

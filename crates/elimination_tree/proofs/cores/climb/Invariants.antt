@@ -1,10 +1,6 @@
 -- `elimination_tree::cores::climb` meets its contract. The invariant is `Walking`, and each answer names the law for its way. Assumes nothing.
-use Rattle.std.specs.Prelude.{◌-◌, ◌<◌, length}
-use mathlib.Core.Path.{◌∙◌}
-use native.Mathlib.Omega.{arith}
-use borrow.Author.Rules.{rules}
-use lib.ListN.{length-set}
-use Rattle.elimination_tree.proofs.Turns.{Walking, begins, turns, further, roots, ends, climbs-set}
+use Rattle.std.specs.Prelude.{◌-◌}
+use Rattle.elimination_tree.proofs.Turns.{Walking}
 use Rattle.elimination_tree.proofs.cores.climb.Given as goal
 
 abbrev pub invariant-loop-i : goal.invariant-loop-i

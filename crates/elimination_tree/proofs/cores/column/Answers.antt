@@ -1,9 +1,7 @@
 -- `elimination_tree::cores::column` meets its contract: by what is left of the rows. Assumes nothing.
-use Rattle.std.specs.Prelude.{◌-◌}
 use mathlib.Core.Path.{refl}
 use native.Mathlib.Omega.{arith}
-use borrow.Author.Rules.{rules}
-use Rattle.elimination_tree.proofs.Turns.{Scanning, scan-climbs, scan-skips, scan-ends}
+use Rattle.elimination_tree.proofs.Turns.{scan-climbs, scan-skips, scan-ends}
 use Rattle.elimination_tree.proofs.cores.column.Goals as goal
 use Rattle.elimination_tree.proofs.cores.column.Goals.{then-i-j, else-i-j}
 
@@ -18,12 +16,12 @@ pub loop-q-preserved : goal.loop-q-preserved
 loop-q-preserved c =
     let v = c.loop-q in
     elim c.if-i-j.branch [
-      then-i-j w ↦ rw (w.parent-is, w.ancestor-is)
-        (scan-climbs c.args.j c.args.rows.now c.args.from c.args.to c.args.parent.now c.args.ancestor.now v.parent v.ancestor v.q v.invariant
-        c.loop-q-test.true c.requires.from_le_to.1 w.climb.new.parent w.climb.new.ancestor w.if-i-j.true (w.climb.auto.parent, w.climb.auto.ancestor) w.climb.ensures.climbs_2 w.climb.ensures.ancestor_after)
+      | then-i-j w ↦ rw (w.parent-is, w.ancestor-is)
+          (scan-climbs c.args.j c.args.rows.now c.args.from c.args.to c.args.parent.now c.args.ancestor.now v.parent v.ancestor v.q v.invariant
+          c.loop-q-test.true c.requires.from_le_to.1 w.climb.new.parent w.climb.new.ancestor w.if-i-j.true (w.climb.auto.parent, w.climb.auto.ancestor) w.climb.ensures.climbs_2 w.climb.ensures.ancestor_after)
       | else-i-j w ↦ rw (w.parent-is, w.ancestor-is)
-        (scan-skips c.args.j c.args.rows.now c.args.from c.args.to c.args.parent.now c.args.ancestor.now v.parent v.ancestor v.q v.invariant
-        c.loop-q-test.true c.requires.from_le_to.1 w.if-i-j.false)
+          (scan-skips c.args.j c.args.rows.now c.args.from c.args.to c.args.parent.now c.args.ancestor.now v.parent v.ancestor v.q v.invariant
+          c.loop-q-test.true c.requires.from_le_to.1 w.if-i-j.false)
     ]
 
 pub shape_of-parent : goal.shape_of-parent

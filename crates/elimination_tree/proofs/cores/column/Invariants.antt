@@ -1,10 +1,6 @@
 -- `elimination_tree::cores::column` meets its contract: by what is left of the rows. Assumes nothing.
 use Rattle.std.specs.Prelude.{◌-◌}
-use mathlib.Core.Path.{refl}
-use mathlib.Core.Logic.{⊎_elim}
-use native.Mathlib.Omega.{arith}
-use borrow.Author.Rules.{rules}
-use Rattle.elimination_tree.proofs.Turns.{Scanning, scan-climbs, scan-skips, scan-ends}
+use Rattle.elimination_tree.proofs.Turns.{Scanning}
 use Rattle.elimination_tree.proofs.cores.column.Given as goal
 
 abbrev pub invariant-loop-q : goal.invariant-loop-q

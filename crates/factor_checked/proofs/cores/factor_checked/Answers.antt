@@ -1,7 +1,6 @@
 -- `factor_checked::cores::factor_checked` meets its contract: the tables are refused, or they pass and the needs decide. Assumes nothing.
 use Rattle.std.specs.Prelude.{◌≡◌}
 use mathlib.Core.Path.{refl, sym, ap, ◌∙◌}
-use borrow.Author.Rules.{rules}
 use Rattle.refusal.specs.Refusal.{done, refuses}
 use Rattle.tables.specs.Sound.{SystemSound}
 use Rattle.tables.specs.Verdict.{system_verdict}

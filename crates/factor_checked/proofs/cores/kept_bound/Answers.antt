@@ -2,7 +2,6 @@
 use Rattle.std.specs.Prelude.{◌+◌, ◌*◌, ◌≤◌, length}
 use native.Mathlib.Nat.{mul-le-mul}
 use native.Mathlib.Omega.{arith}
-use borrow.Author.Rules.{rules}
 use Rattle.factor_checked.proofs.cores.kept_bound.Goals as goal
 
 pub overflow_mul-result : goal.overflow_mul-result

@@ -26,11 +26,19 @@ pub work_column-n-requires : goal.work_column-n-requires
 work_column-n-requires c =
     let load = c.load_column in
     let t = the-tables-2 c in
-    let n = c.requires.grown.1 in record { rows_laid = laid-again t (sym n) refl (sym load.auto.c) c.requires.rows_laid; diagonal_laid = diagonal-again c.args.sizes.now c.args.unit_starts.now c.args.d_starts.now (sym n) refl refl c.requires.diagonal_laid; placed = (
-            placed_by t c.args.dims.now c.args.starts.now c.args.rows.now c.args.values.now c.args.order.now c.args.j load.new.places load.new.c load.ensures,
-            subst (λ (m : ℕ). c.args.j < m) (sym n) c.requires.next.1,
-            load.auto.places ∙ (c.requires.next.2 ∙ sym n),
-          ); grown = c.requires.grown.0; next = subst (λ (m : ℕ). Next t m c.args.j c.args.next.now) (sym n) c.requires.next.0; stamps_len = (c.requires.stamps_len.0 ∙ sym n, c.requires.stamps_len.1 ∙ sym n, c.requires.stamps_len.2); in_bounds = (c.requires.in_bounds.0, c.requires.in_bounds.1, c.requires.in_bounds.3) }
+    let n = c.requires.grown.1 in record {
+      rows_laid = laid-again t (sym n) refl (sym load.auto.c) c.requires.rows_laid;
+      diagonal_laid = diagonal-again c.args.sizes.now c.args.unit_starts.now c.args.d_starts.now (sym n) refl refl c.requires.diagonal_laid;
+      placed = (
+        placed_by t c.args.dims.now c.args.starts.now c.args.rows.now c.args.values.now c.args.order.now c.args.j load.new.places load.new.c load.ensures,
+        subst (λ (m : ℕ). c.args.j < m) (sym n) c.requires.next.1,
+        load.auto.places ∙ (c.requires.next.2 ∙ sym n),
+      );
+      grown = c.requires.grown.0;
+      next = subst (λ (m : ℕ). Next t m c.args.j c.args.next.now) (sym n) c.requires.next.0;
+      stamps_len = (c.requires.stamps_len.0 ∙ sym n, c.requires.stamps_len.1 ∙ sym n, c.requires.stamps_len.2);
+      in_bounds = (c.requires.in_bounds.0, c.requires.in_bounds.1, c.requires.in_bounds.3);
+    }
 
 abbrev the-tables-3 : goal.After-finish_column-arg-3-1 → Tables
 the-tables-3 start = tables start.args.sizes.now start.args.l_starts.now start.args.l_rows.now start.args.l_offsets.now
@@ -40,11 +48,15 @@ finish_column-r-requires c =
     let load = c.load_column in
     let work = c.work_column-n in
     let t = the-tables-3 c in
-    let n = c.requires.rows_laid.count.0 in record { rows_laid = laid-again t (sym n) refl (sym (work.auto.c ∙ load.auto.c)) c.requires.rows_laid; diagonal_laid = diagonal-again c.args.sizes.now c.args.unit_starts.now c.args.d_starts.now (sym n) refl refl c.requires.diagonal_laid; placed = (
-          placed_by t c.args.dims.now c.args.starts.now c.args.rows.now c.args.values.now c.args.order.now c.args.j load.new.places load.new.c load.ensures,
-          subst (λ (m : ℕ). c.args.j < m) (sym n) c.requires.next.1,
-          load.auto.places ∙ (c.requires.next.2 ∙ sym n),
-        ) }
+    let n = c.requires.rows_laid.count.0 in record {
+      rows_laid = laid-again t (sym n) refl (sym (work.auto.c ∙ load.auto.c)) c.requires.rows_laid;
+      diagonal_laid = diagonal-again c.args.sizes.now c.args.unit_starts.now c.args.d_starts.now (sym n) refl refl c.requires.diagonal_laid;
+      placed = (
+        placed_by t c.args.dims.now c.args.starts.now c.args.rows.now c.args.values.now c.args.order.now c.args.j load.new.places load.new.c load.ensures,
+        subst (λ (m : ℕ). c.args.j < m) (sym n) c.requires.next.1,
+        load.auto.places ∙ (c.requires.next.2 ∙ sym n),
+      );
+    }
 
 abbrev the-tables-4 : goal.After-keep_column-arg-1 → Tables
 the-tables-4 start = tables start.args.sizes.now start.args.l_starts.now start.args.l_rows.now start.args.l_offsets.now
@@ -115,6 +127,10 @@ returns c =
     let d = c.args.d.now in
     let cache = c.args.cache.now in
     let works : Works t units pivots into upper (length c.args.dims.now) j load.new.places values diag d cache load.new.c c.args.count work.new.c work.result =
-    subst (λ (m : ℕ). Works t units pivots into upper m j load.new.places values diag d cache load.new.c c.args.count work.new.c work.result) n work.ensures.works in record { next_2 = (subst (λ (m : ℕ). Next t m (j + 1) work.new.next) n work.ensures.next_2, work.ensures.below.0); counted = subst (Counted j) (sym c.turned_by.ensures) (counts-so j work.result finish.result work.ensures.below.1); turns = subst (λ (r : Turned). Turns t units pivots into upper g j values diag d cache c.args.count r finish.new.values finish.new.diag finish.new.d keep.new.cache) (sym c.turned_by.ensures)
-            (turns t units pivots into upper g j c.requires.next.1 c.requires.source.by_sizes load.new.places values diag d cache load.new.c work.new.c c.args.count work.result
-            (λ a served. load.ensures a served.fed) works finish.result finish.new.values finish.new.diag finish.new.d finish.ensures c.requires.rows_laid keep.new.cache keep.ensures) }
+    subst (λ (m : ℕ). Works t units pivots into upper m j load.new.places values diag d cache load.new.c c.args.count work.new.c work.result) n work.ensures.works in record {
+      next_2 = (subst (λ (m : ℕ). Next t m (j + 1) work.new.next) n work.ensures.next_2, work.ensures.below.0);
+      counted = subst (Counted j) (sym c.turned_by.ensures) (counts-so j work.result finish.result work.ensures.below.1);
+      turns = subst (λ (r : Turned). Turns t units pivots into upper g j values diag d cache c.args.count r finish.new.values finish.new.diag finish.new.d keep.new.cache) (sym c.turned_by.ensures)
+          (turns t units pivots into upper g j c.requires.next.1 c.requires.source.by_sizes load.new.places values diag d cache load.new.c work.new.c c.args.count work.result
+          (λ a served. load.ensures a served.fed) works finish.result finish.new.values finish.new.diag finish.new.d finish.ensures c.requires.rows_laid keep.new.cache keep.ensures);
+    }

@@ -1,15 +1,13 @@
 -- `factor_columns::cores::factor_columns` meets its contract. Assumes nothing.
-use Rattle.std.specs.Prelude.{◌≡◌, ℕ, ◌-◌, ◌*◌, ◌<◌, ◌≤◌, length}
+use Rattle.std.specs.Prelude.{◌≡◌, ℕ, ◌<◌, length}
 use mathlib.Core.Path.{refl, sym, ap, subst, ◌∙◌}
 use native.Mathlib.Numerals.{add-one}
 use native.Mathlib.Omega.{arith}
 use borrow.Author.Rules.{rules}
-use Rattle.symbolic.specs.Columns.{Below}
 use Rattle.machine.specs.System.{System, blocks}
 use Rattle.layout.specs.Layout.{Tables, tables}
-use Rattle.work_column.specs.Work.{Next}
 use Rattle.factor_column.specs.declared.cores.Turned.{Turned}
-use Rattle.factor_column.specs.Turn.{Given, given, Served, UpTo, Counted, After}
+use Rattle.factor_column.specs.Turn.{UpTo, Counted, After}
 use Rattle.factor_column.proofs.TurnLaws.{laid-again, diagonal-again, nothing_yet}
 use Rattle.factor_columns.proofs.RunLaws.{stops_at, whole}
 use Rattle.factor_columns.proofs.cores.factor_columns.Goals as goal
@@ -19,13 +17,12 @@ abbrev the-tables : goal.After-slice_known-11-1 → Tables
 the-tables start = tables start.args.sizes.now start.args.l_starts.now start.args.l_rows.now start.args.l_offsets.now
 
 pub loop-j-init : goal.loop-j-init
-loop-j-init c =
-    (
-      (refl, omega arith),
-      (refl, refl, refl, refl, refl, refl, refl, refl, refl, refl, refl),
-      (c.requires.next.0, c.requires.stamps_len.2, omega arith),
-      λ a served. nothing_yet (the-tables c) c.args.unit_starts.now c.args.d_starts.now a c.args.l_values.now c.args.diag.now c.args.d.now c.args.cache.now,
-    )
+loop-j-init c = (
+  (refl, omega arith),
+  (refl, refl, refl, refl, refl, refl, refl, refl, refl, refl, refl),
+  (c.requires.next.0, c.requires.stamps_len.2, omega arith),
+  λ a served. nothing_yet (the-tables c) c.args.unit_starts.now c.args.d_starts.now a c.args.l_values.now c.args.diag.now c.args.d.now c.args.cache.now,
+)
 
 abbrev the-tables-2 : goal.After-factor_column-arg-in-loop-j-10-1 → Tables
 the-tables-2 start = tables start.args.sizes.now start.args.l_starts.now start.args.l_rows.now start.args.l_offsets.now

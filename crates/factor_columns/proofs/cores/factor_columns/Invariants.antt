@@ -1,17 +1,10 @@
 -- `factor_columns::cores::factor_columns` meets its contract. Assumes nothing.
-use Rattle.std.specs.Prelude.{◌≡◌, ℕ, ◌-◌, ◌*◌, ◌<◌, ◌≤◌, length}
-use mathlib.Core.Path.{refl, sym, ap, subst, ◌∙◌}
-use native.Mathlib.Numerals.{add-one}
-use native.Mathlib.Omega.{arith}
-use borrow.Author.Rules.{rules}
+use Rattle.std.specs.Prelude.{◌≡◌, ◌-◌, ◌*◌, ◌≤◌, length}
 use Rattle.symbolic.specs.Columns.{Below}
-use Rattle.machine.specs.System.{System, blocks}
-use Rattle.layout.specs.Layout.{Tables, tables}
+use Rattle.machine.specs.System.{System}
+use Rattle.layout.specs.Layout.{tables}
 use Rattle.work_column.specs.Work.{Next}
-use Rattle.factor_column.specs.declared.cores.Turned.{Turned}
-use Rattle.factor_column.specs.Turn.{Given, given, Served, UpTo, Counted, After}
-use Rattle.factor_column.proofs.TurnLaws.{laid-again, diagonal-again, nothing_yet}
-use Rattle.factor_columns.proofs.RunLaws.{stops_at, whole}
+use Rattle.factor_column.specs.Turn.{given, Served, UpTo}
 use Rattle.factor_columns.proofs.cores.factor_columns.Given as goal
 
 abbrev pub invariant-loop-j : goal.invariant-loop-j

@@ -134,27 +134,32 @@ make_factor-r-requires c =
     let found = c.analyze-found in
     let all = needs-met-6 (c) in
     let s = stored_is a sound found.new.count found.new.heads found.new.into found.new.upper found.result found.ensures in
-    let inverse = found.auto.inverse ∙ x.inverse in record { system_sound = sound; analyzed = analyzed a sound found.new.count found.new.heads found.new.into found.new.upper found.result found.ensures; table_room = record {
-            of_order = x.order;
-            of_parents = x.parents;
-            of_starts = x.l_starts;
-            of_rows = length-take-le found.result.counts.stored c.args.l_rows.now all.3 ∙ s;
-            of_offsets = length-take-le (found.result.counts.stored + 1) c.args.l_offsets.now all.0 ∙ ap (λ (m : ℕ). m + 1) s;
-            of_inverse = inverse;
-            of_sizes = found.auto.sizes ∙ x.sizes;
-            of_stamps = found.auto.stamps ∙ x.stamps;
-            of_bodies = x.bodies;
-            of_units = x.unit_starts;
-            of_pivots = x.d_starts;
-            of_places = x.places;
-          }; number_room = record {
-            of_values = length-take-le found.result.counts.numbers c.args.l_values.now all.1 ∙ numbers-are a sound found.new.count found.new.heads found.new.into found.new.upper found.result found.ensures;
-            of_diag = x.diag;
-            of_d = x.d;
-            of_column = x.column;
-            of_inverse = inverse;
-            of_places = x.places;
-          } }
+    let inverse = found.auto.inverse ∙ x.inverse in record {
+      system_sound = sound;
+      analyzed = analyzed a sound found.new.count found.new.heads found.new.into found.new.upper found.result found.ensures;
+      table_room = record {
+        of_order = x.order;
+        of_parents = x.parents;
+        of_starts = x.l_starts;
+        of_rows = length-take-le found.result.counts.stored c.args.l_rows.now all.3 ∙ s;
+        of_offsets = length-take-le (found.result.counts.stored + 1) c.args.l_offsets.now all.0 ∙ ap (λ (m : ℕ). m + 1) s;
+        of_inverse = inverse;
+        of_sizes = found.auto.sizes ∙ x.sizes;
+        of_stamps = found.auto.stamps ∙ x.stamps;
+        of_bodies = x.bodies;
+        of_units = x.unit_starts;
+        of_pivots = x.d_starts;
+        of_places = x.places;
+      };
+      number_room = record {
+        of_values = length-take-le found.result.counts.numbers c.args.l_values.now all.1 ∙ numbers-are a sound found.new.count found.new.heads found.new.into found.new.upper found.result found.ensures;
+        of_diag = x.diag;
+        of_d = x.d;
+        of_column = x.column;
+        of_inverse = inverse;
+        of_places = x.places;
+      };
+    }
 
 pub factorized_by-requires : goal.factorized_by-requires
 factorized_by-requires c = search rules
@@ -201,8 +206,11 @@ returns-in-Short c =
     let kept = c.lesser-kept in
     let have = length c.args.cache.now in
     let s = stored_is a c.requires.system_sound found.new.count found.new.heads found.new.into found.new.upper found.result found.ensures in
-    let m = numbers-are a c.requires.system_sound found.new.count found.new.heads found.new.into found.new.upper found.result found.ensures in record { written = fit-short (whole_kept done most a b have) a b _ _ (sym (ap needs.told c.in-Short.is) ∙ c.plan_room-room.ensures ∙ plan-told most a m kept.ensures b have s) refl
-          refl refl refl refl refl refl refl refl; cache_after = c.clear_to.ensures ∙ ap (λ (k : ℕ). cleared_to k c.args.cache.now) (kept-is most a m kept.ensures) }
+    let m = numbers-are a c.requires.system_sound found.new.count found.new.heads found.new.into found.new.upper found.result found.ensures in record {
+      written = fit-short (whole_kept done most a b have) a b _ _ (sym (ap needs.told c.in-Short.is) ∙ c.plan_room-room.ensures ∙ plan-told most a m kept.ensures b have s) refl
+          refl refl refl refl refl refl refl refl;
+      cache_after = c.clear_to.ensures ∙ ap (λ (k : ℕ). cleared_to k c.args.cache.now) (kept-is most a m kept.ensures);
+    }
 
 pub shape_of-order : goal.shape_of-order
 shape_of-order c = c.make_factor-r.auto.order
@@ -292,10 +300,13 @@ returns-in-Met c =
     let m = numbers-are a c.requires.system_sound found.new.count found.new.heads found.new.into found.new.upper found.result found.ensures in
     let most = c.args.most in
     let kept = c.lesser-kept in
-    let have = length c.args.cache.now in record { written = fit_made (whole_kept done most a b have) a b
+    let have = length c.args.cache.now in record {
+      written = fit_made (whole_kept done most a b have) a b
           (lent made.new.order made.new.parents made.new.l_starts (made.new.l_rows ++ drop found.result.counts.stored b.l_rows) (made.new.l_offsets ++ drop (found.result.counts.stored + 1) b.l_offsets) (made.new.l_values ++ drop found.result.counts.numbers b.l_values) made.new.diag made.new.d made.new.column made.new.inverse made.new.sizes made.new.count found.new.heads found.new.into made.new.stamps found.new.table found.new.upper made.new.bodies made.new.unit_starts made.new.d_starts made.new.places)
           c.factorized_by.result made.result made.new.order made.new.parents made.new.l_starts made.new.l_rows made.new.l_offsets made.new.l_values made.new.diag made.new.d made.ensures.makes
           (c.factorized_by.ensures ∙ ap (λ (k : ℕ). factorized_by k found.result.counts.numbers made.result) s ∙ ap (λ (k : ℕ). factorized_by (stored a) k made.result) m)
           (room-met-7 c ∙ plan-told most a m kept.ensures b have s)
-          refl refl refl (ap (λ (k : ℕ). made.new.l_rows ++ drop k b.l_rows) s) (ap (λ (k : ℕ). made.new.l_offsets ++ drop (k + 1) b.l_offsets) s) (ap (λ (k : ℕ). made.new.l_values ++ drop k b.l_values) m) refl refl; cache_after = ap (λ (l : List Float). l ++ drop kept.result c.args.cache.now) made.ensures.cache_after ∙ cleared-front kept.result c.args.cache.now (needs-met-7 c).2
-          ∙ ap (λ (k : ℕ). cleared_to k c.args.cache.now) (kept-is most a m kept.ensures) }
+          refl refl refl (ap (λ (k : ℕ). made.new.l_rows ++ drop k b.l_rows) s) (ap (λ (k : ℕ). made.new.l_offsets ++ drop (k + 1) b.l_offsets) s) (ap (λ (k : ℕ). made.new.l_values ++ drop k b.l_values) m) refl refl;
+      cache_after = ap (λ (l : List Float). l ++ drop kept.result c.args.cache.now) made.ensures.cache_after ∙ cleared-front kept.result c.args.cache.now (needs-met-7 c).2
+          ∙ ap (λ (k : ℕ). cleared_to k c.args.cache.now) (kept-is most a m kept.ensures);
+    }

@@ -17,8 +17,13 @@ the-system start = system start.args.dims.now start.args.starts.now start.args.r
 
 pub write_numbers-requires : goal.write_numbers-requires
 write_numbers-requires c =
-    let tables = c.write_tables in record { system_sound = c.requires.system_sound; upper_of = (c.requires.analyzed.listed, c.requires.analyzed.parents); tabled = again c.args.dims.now c.args.starts.now c.args.rows.now c.args.perm.now c.args.late.now c.args.values.now c.args.tol tables.ensures.tabled; number_room = room-again (the-system c) c.args.l_values.now c.args.diag.now c.args.d.now c.args.column.now c.args.inverse.now tables.new.inverse c.args.places.now tables.new.places
-              tables.auto.inverse tables.auto.places c.requires.number_room }
+    let tables = c.write_tables in record {
+      system_sound = c.requires.system_sound;
+      upper_of = (c.requires.analyzed.listed, c.requires.analyzed.parents);
+      tabled = again c.args.dims.now c.args.starts.now c.args.rows.now c.args.perm.now c.args.late.now c.args.values.now c.args.tol tables.ensures.tabled;
+      number_room = room-again (the-system c) c.args.l_values.now c.args.diag.now c.args.d.now c.args.column.now c.args.inverse.now tables.new.inverse c.args.places.now tables.new.places
+          tables.auto.inverse tables.auto.places c.requires.number_room;
+    }
 
 pub shape_of-order : goal.shape_of-order
 shape_of-order c = c.write_tables.auto.order
@@ -77,7 +82,8 @@ shape_of-cache c = search rules
 pub returns : goal.returns
 returns c =
     let tables = c.write_tables in
-    let numbers = c.write_numbers in record { makes = record {
+    let numbers = c.write_numbers in record {
+      makes = record {
         outcome = numbers.ensures.result_value;
         by_order = tables.ensures.tabled.by_order;
         by_parents = tables.ensures.parents_after;
@@ -87,4 +93,6 @@ returns c =
         by_values = numbers.ensures.l_values_after;
         by_diag = numbers.ensures.diag_after;
         by_d = numbers.ensures.d_after;
-      }; cache_after = numbers.ensures.cache_after }
+      };
+      cache_after = numbers.ensures.cache_after;
+    }

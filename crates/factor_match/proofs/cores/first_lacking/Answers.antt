@@ -1,5 +1,4 @@
 -- `factor_match::cores::first_lacking` meets its contract: the lowest of two. Assumes nothing.
-use borrow.Author.Rules.{rules}
 use Rattle.match_rows.specs.Rows.{given_in}
 use Rattle.factor_match.proofs.MatchLaws.{lowest-first, lowest_second}
 use Rattle.factor_match.proofs.cores.first_lacking.Goals as goal

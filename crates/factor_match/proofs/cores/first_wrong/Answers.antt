@@ -1,6 +1,5 @@
 -- `factor_match::cores::first_wrong` meets its contract: the lowest of the three answers is the first wrong column. Assumes nothing.
 use native.Mathlib.Omega.{arith}
-use borrow.Author.Rules.{rules}
 use Rattle.factor_match.proofs.MatchLaws.{says-missing, says-extra, says-parent, says_same}
 use Rattle.factor_match.proofs.cores.first_wrong.Goals as goal
 

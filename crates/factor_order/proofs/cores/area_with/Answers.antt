@@ -1,5 +1,4 @@
 -- `factor_order::cores::area_with` meets its contract. Assumes nothing.
-use borrow.Author.Rules.{rules}
 use Rattle.std.specs.Prelude.{length}
 use Rattle.graph.specs.Order.{moved}
 use Rattle.graph.proofs.OrderLaws.{moved-permutes}

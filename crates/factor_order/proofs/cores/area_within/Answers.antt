@@ -1,6 +1,5 @@
 -- `factor_order::cores::area_within` meets its contract. Assumes nothing.
 use mathlib.Core.Path.{sym}
-use borrow.Author.Rules.{rules}
 use lib.Seq.{length-take-le}
 use Rattle.factor_order.proofs.cores.area_within.Goals as goal
 

@@ -1,16 +1,8 @@
 -- `factor_order::cores::offsets_are` meets its contract: the offsets before p agree, and the sum is the next. Assumes nothing.
-use Rattle.std.specs.Prelude.{◌≡◌, ℕ, ◌+◌, ◌-◌, ◌*◌, ◌<◌, ◌≤◌, List, length}
-use Prim.Native.Nat.{zero-le}
-use mathlib.Core.Path.{sym, ap, ◌∙◌}
-use native.Mathlib.Omega.{arith}
-use borrow.Author.Count.{below_more}
-use borrow.Author.Rules.{rules}
+use Rattle.std.specs.Prelude.{◌≡◌, ℕ, ◌+◌, ◌-◌, ◌<◌, ◌≤◌, length}
 use Rattle.tables.specs.Verdict.{at}
 use Rattle.order.specs.Order.{sizes_of}
-use Rattle.scalars.specs.Bodies.{offset_at, offsets}
-use Rattle.scalars.proofs.BodyLaws.{offset-first, length-offsets, offsets-at}
-use Rattle.factor_order.proofs.SameLaws.{differ_same, last-same, tested}
-use Rattle.factor_order.proofs.OffsetLaws.{offset-sum, offset-few}
+use Rattle.scalars.specs.Bodies.{offset_at}
 use Rattle.factor_order.proofs.cores.offsets_are.Given as goal
 
 abbrev pub invariant-loop-p : goal.invariant-loop-p

@@ -1,5 +1,4 @@
 -- `factor_order::cores::order_with` meets its contract. Assumes nothing.
-use borrow.Author.Rules.{rules}
 use Rattle.factor_order.proofs.cores.order_with.Goals as goal
 
 pub move_late-requires : goal.move_late-requires

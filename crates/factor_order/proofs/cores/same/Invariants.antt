@@ -1,12 +1,5 @@
 -- `factor_order::cores::same` meets its contract: the entries before k agree. Assumes nothing.
-use Rattle.std.specs.Prelude.{◌≡◌, ℕ, ◌-◌, ◌<◌, ◌≤◌, List, length, get_or}
-use Prim.Native.Nat.{zero-le}
-use mathlib.Core.Path.{ap}
-use native.Mathlib.Omega.{arith}
-use borrow.Author.Count.{below_more}
-use borrow.Author.Rules.{rules}
-use lib.Seq.{ext_get_or}
-use Rattle.factor_order.proofs.SameLaws.{equal-same, differ_same}
+use Rattle.std.specs.Prelude.{◌≡◌, ℕ, ◌-◌, ◌<◌, ◌≤◌, length, get_or}
 use Rattle.factor_order.proofs.cores.same.Given as goal
 
 abbrev pub invariant-loop-k : goal.invariant-loop-k

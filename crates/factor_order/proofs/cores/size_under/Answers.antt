@@ -1,7 +1,6 @@
 -- `factor_order::cores::size_under` meets its contract. Assumes nothing.
 use mathlib.Core.Path.{sym, ◌∙◌}
 use native.Mathlib.Omega.{arith}
-use borrow.Author.Rules.{rules}
 use Rattle.std.specs.Prelude.{length}
 use Rattle.order.proofs.Laws.{below_at}
 use Rattle.scalars.proofs.ScalarLaws.{sizes-at}

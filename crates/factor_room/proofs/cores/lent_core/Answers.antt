@@ -2,7 +2,6 @@
 use Rattle.std.specs.Prelude.{◌≡◌, ◌≤◌, length}
 use mathlib.Core.Path.{sym, ap, ◌∙◌}
 use native.Mathlib.Omega.{arith}
-use borrow.Author.Rules.{rules}
 use Rattle.refusal.specs.Refusal.{done, refuses, verdict}
 use Rattle.needs.specs.Needs as needs
 use Rattle.needs.proofs.Laws.{all-met}

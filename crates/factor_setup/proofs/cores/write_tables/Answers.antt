@@ -96,5 +96,8 @@ returns c =
     let lay-out = c.lay_out in
     let room = c.requires.table_room in
     let by_starts = starts-told (the-system-4 c) c.requires.plan_sound.blocks c.requires.analyzed store.new.l_starts store.ensures.l_starts_after in
-    let by_rows = rows_told (the-system-4 c) c.requires.plan_sound.blocks c.requires.analyzed store.new.l_rows store.ensures.l_rows_after in record { tabled = tabled (the-system-4 c) move-late.new.order store.new.l_starts store.new.l_rows move-late.ensures by_starts by_rows _ _ _ _ _ _ _ _ _ (store.auto.count ∙ count_long (the-system-4 c) c.requires.plan_sound.blocks c.requires.analyzed) (store.auto.stamps ∙ room.of_stamps)
-          lay-out.ensures.sizes_after lay-out.ensures.l_offsets_after lay-out.ensures.bodies_after lay-out.ensures.unit_starts_after lay-out.ensures.d_starts_after lay-out.ensures.next_after c.fill.ensures; parents_after = parents-told (the-system-4 c) c.requires.plan_sound.blocks c.requires.analyzed _ _ room.of_parents c.copy.ensures }
+    let by_rows = rows_told (the-system-4 c) c.requires.plan_sound.blocks c.requires.analyzed store.new.l_rows store.ensures.l_rows_after in record {
+      tabled = tabled (the-system-4 c) move-late.new.order store.new.l_starts store.new.l_rows move-late.ensures by_starts by_rows _ _ _ _ _ _ _ _ _ (store.auto.count ∙ count_long (the-system-4 c) c.requires.plan_sound.blocks c.requires.analyzed) (store.auto.stamps ∙ room.of_stamps)
+          lay-out.ensures.sizes_after lay-out.ensures.l_offsets_after lay-out.ensures.bodies_after lay-out.ensures.unit_starts_after lay-out.ensures.d_starts_after lay-out.ensures.next_after c.fill.ensures;
+      parents_after = parents-told (the-system-4 c) c.requires.plan_sound.blocks c.requires.analyzed _ _ room.of_parents c.copy.ensures;
+    }

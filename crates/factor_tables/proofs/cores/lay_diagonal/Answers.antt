@@ -2,7 +2,6 @@
 use Rattle.std.specs.Prelude.{◌≡◌, ℕ, ◌+◌, List, length, get_or}
 use mathlib.Core.Path.{sym, ap, ◌∙◌}
 use native.Mathlib.Omega.{arith}
-use borrow.Author.Rules.{rules}
 use Rattle.scalars.specs.Scalars.{scalar_starts}
 use Rattle.scalars.proofs.ScalarLaws.{starts-are}
 use Rattle.factor_tables.proofs.NeedLaws.{area_small}

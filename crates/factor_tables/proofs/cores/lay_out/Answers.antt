@@ -2,7 +2,6 @@
 use Rattle.std.specs.Prelude.{◌≡◌, length}
 use mathlib.Core.Path.{sym, ap, subst, ◌∙◌}
 use native.Mathlib.Omega.{arith}
-use borrow.Author.Rules.{rules}
 use Rattle.tables.specs.Sound.{Sizes}
 use Rattle.scalars.specs.Scalars.{scalar_starts}
 use Rattle.layout.specs.Layout.{unit_starts_of}
@@ -18,11 +17,14 @@ lay_diagonal-requires c =
     let g = c.requires.layable in
     let room = c.requires.unit_starts_len in
     let call = c.lay_rows in
-    let long : length call.new.sizes ≡ length c.args.dims.now = call.auto.sizes ∙ c.requires.sizes_len.0 in record { sizes = (
+    let long : length call.new.sizes ≡ length c.args.dims.now = call.auto.sizes ∙ c.requires.sizes_len.0 in record {
+      sizes = (
         subst Sizes (sym call.ensures.sizes_after) (sizes-sound c.args.dims.now c.args.order.now g.permutes g.measured.sizes),
         omega (arith, long, g.blocks),
         c.requires.sizes_len.2 ∙ sym long,
-      ); unit_starts_len = (omega (arith, long, room.0, room.1), omega (arith, long, room.0, room.1)) }
+      );
+      unit_starts_len = (omega (arith, long, room.0, room.1), omega (arith, long, room.0, room.1));
+    }
 
 pub returns : goal.returns
 returns c =

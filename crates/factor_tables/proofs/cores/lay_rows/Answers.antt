@@ -2,7 +2,6 @@
 use Rattle.std.specs.Prelude.{◌≡◌, ℕ, ◌<◌, List, length, get_or}
 use mathlib.Core.Path.{sym, ap, subst, ◌∙◌}
 use native.Mathlib.Omega.{arith}
-use borrow.Author.Rules.{rules}
 use lib.Seq.{take_all}
 use Rattle.order.specs.Order.{sizes_of}
 use Rattle.tables.specs.Sound.{Measured}
@@ -26,12 +25,11 @@ sized : (c : goal.After-make_offsets-arg-1) → c.sizes.new.order ≡ sizes_of c
 sized c = c.sizes.ensures ∙ ap (sizes_of c.args.dims.now) (copied-2 c)
 
 pub make_offsets-requires : goal.make_offsets-requires
-make_offsets-requires c =
-    (
-      subst (λ (l : List ℕ). Measured l c.args.l_starts.now c.args.l_rows.now) (sym (sized c)) (l-measured _ _ _ _ _ _ c.requires.layable),
-      c.requires.layable.filled,
-      c.requires.l_offsets_len.0,
-    )
+make_offsets-requires c = (
+  subst (λ (l : List ℕ). Measured l c.args.l_starts.now c.args.l_rows.now) (sym (sized c)) (l-measured _ _ _ _ _ _ c.requires.layable),
+  c.requires.layable.filled,
+  c.requires.l_offsets_len.0,
+)
 
 pub copy-requires-2 : goal.copy-requires-2
 copy-requires-2 c =

@@ -1,8 +1,7 @@
 -- `factor_tables::cores::unit_numbers` meets its contract: at the head of the loop, the areas of the blocks seen. Assumes nothing.
-use Rattle.std.specs.Prelude.{◌≡◌, ◌-◌, ◌≤◌, length}
+use Rattle.std.specs.Prelude.{◌≡◌, length}
 use mathlib.Core.Path.{sym, ap, ◌∙◌}
 use native.Mathlib.Omega.{arith}
-use borrow.Author.Rules.{rules}
 use Rattle.buckets.specs.Buckets.{before}
 use Rattle.buckets.proofs.Turns.{before-next}
 use Rattle.scalars.proofs.ScalarLaws.{nothing-before}

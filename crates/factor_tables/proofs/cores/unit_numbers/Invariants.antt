@@ -1,14 +1,7 @@
 -- `factor_tables::cores::unit_numbers` meets its contract: at the head of the loop, the areas of the blocks seen. Assumes nothing.
 use Rattle.std.specs.Prelude.{◌≡◌, ◌-◌, ◌≤◌, length}
-use mathlib.Core.Path.{sym, ap, ◌∙◌}
-use native.Mathlib.Omega.{arith}
-use borrow.Author.Rules.{rules}
 use Rattle.buckets.specs.Buckets.{before}
-use Rattle.buckets.proofs.Turns.{before-next}
-use Rattle.scalars.proofs.ScalarLaws.{nothing-before}
 use Rattle.layout.specs.Layout.{squares}
-use Rattle.layout.proofs.DiagonalLaws.{length-squares, squares-at}
-use Rattle.factor_tables.proofs.NeedLaws.{area_small, before-most}
 use Rattle.factor_tables.proofs.cores.unit_numbers.Given as goal
 
 abbrev pub invariant-loop-k : goal.invariant-loop-k

@@ -2,7 +2,6 @@
 use Rattle.std.specs.Prelude.{◌*◌}
 use mathlib.Core.Path.{ap₂}
 use native.Mathlib.Omega.{arith}
-use borrow.Author.Rules.{rules}
 use Rattle.factor_tables.proofs.NeedLaws.{few-work}
 use Rattle.factor_tables.proofs.cores.work_numbers.Goals as goal
 

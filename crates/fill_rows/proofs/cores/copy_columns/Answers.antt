@@ -1,10 +1,10 @@
 -- `fill_rows::cores::copy_columns` meets its contract. Assumes nothing.
-use Rattle.std.specs.Prelude.{◌≡◌, ◌+◌, ◌-◌, ◌<◌, ◌≤◌, true, length, get_or}
+use Rattle.std.specs.Prelude.{◌≡◌, ◌+◌, ◌-◌, ◌<◌, true, length, get_or}
 use mathlib.Core.Path.{refl, sym, ◌∙◌}
 use native.Mathlib.Omega.{arith}
 use lib.ListN.{length-set}
 use Rattle.fill_rows.specs.Repeats.{repeats}
-use Rattle.fill_rows.proofs.Copies.{Copying, copy-begins, copy-skips, copy-turns, copy-ends, parent_above, copy_places, copy-first}
+use Rattle.fill_rows.proofs.Copies.{copy-begins, copy-skips, copy-turns, copy-ends, parent_above, copy_places, copy-first}
 use Rattle.fill_rows.proofs.cores.copy_columns.Goals as goal
 
 pub loop-k-init : goal.loop-k-init

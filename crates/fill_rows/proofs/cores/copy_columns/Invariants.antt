@@ -1,10 +1,6 @@
 -- `fill_rows::cores::copy_columns` meets its contract. Assumes nothing.
-use Rattle.std.specs.Prelude.{◌≡◌, ◌+◌, ◌-◌, ◌<◌, ◌≤◌, true, length, get_or}
-use mathlib.Core.Path.{refl, sym, ◌∙◌}
-use native.Mathlib.Omega.{arith}
-use lib.ListN.{length-set}
-use Rattle.fill_rows.specs.Repeats.{repeats}
-use Rattle.fill_rows.proofs.Copies.{Copying, copy-begins, copy-skips, copy-turns, copy-ends, parent_above, copy_places, copy-first}
+use Rattle.std.specs.Prelude.{◌≡◌, ◌≤◌, length}
+use Rattle.fill_rows.proofs.Copies.{Copying}
 use Rattle.fill_rows.proofs.cores.copy_columns.Given as goal
 
 abbrev pub invariant-loop-k : goal.invariant-loop-k

@@ -1,8 +1,8 @@
 -- `fill_rows::cores::copy_down` meets its contract. Assumes nothing.
-use Rattle.std.specs.Prelude.{◌≡◌, ◌-◌, ◌≤◌}
+use Rattle.std.specs.Prelude.{◌≡◌, ◌-◌}
 use mathlib.Core.Logic.{inl, inr, ⊎_elim}
 use native.Mathlib.Omega.{arith}
-use Rattle.fill_rows.proofs.Copies.{Moving, move-begins, move-turns}
+use Rattle.fill_rows.proofs.Copies.{move-begins, move-turns}
 use Rattle.fill_rows.proofs.cores.copy_down.Goals as goal
 
 pub overflow_sub-count : goal.overflow_sub-count

@@ -1,8 +1,6 @@
 -- `fill_rows::cores::copy_down` meets its contract. Assumes nothing.
-use Rattle.std.specs.Prelude.{◌≡◌, ◌-◌, ◌≤◌}
-use mathlib.Core.Logic.{inl, inr, ⊎_elim}
-use native.Mathlib.Omega.{arith}
-use Rattle.fill_rows.proofs.Copies.{Moving, move-begins, move-turns}
+use Rattle.std.specs.Prelude.{◌-◌, ◌≤◌}
+use Rattle.fill_rows.proofs.Copies.{Moving}
 use Rattle.fill_rows.proofs.cores.copy_down.Given as goal
 
 abbrev pub invariant-loop-t : goal.invariant-loop-t

@@ -1,5 +1,5 @@
 -- `fill_rows::cores::fill` meets its contract. Assumes nothing.
-use Rattle.std.specs.Prelude.{◌≡◌, ℕ, ◌+◌, ◌-◌, ◌<◌, length, get_or, take, drop, replicate}
+use Rattle.std.specs.Prelude.{ℕ, ◌+◌, ◌-◌, ◌<◌, length, get_or, take, drop, replicate}
 use mathlib.Core.Path.{refl, sym, ap, subst, ◌∙◌}
 use native.Mathlib.Omega.{arith}
 use borrow.Author.Rules.{rules}
@@ -7,7 +7,7 @@ use lib.ListN.{length-set}
 use Rattle.buckets.proofs.Lists.{part_slice}
 use Rattle.fill_rows.proofs.Columns.{parents-good}
 use Rattle.fill_rows.proofs.Onward.{onward-parents, top_up}
-use Rattle.fill_rows.proofs.Pass.{Filling, heads-length, heads-whole, heads-rise, fill_begins, fill_asks, fill_turns, fill_ends}
+use Rattle.fill_rows.proofs.Pass.{heads-length, heads-whole, heads-rise, fill_begins, fill_asks, fill_turns, fill_ends}
 use Rattle.fill_rows.proofs.cores.fill.Goals as goal
 
 pub fill-requires : goal.fill-requires
@@ -18,12 +18,11 @@ copy-requires c =
     omega (arith, heads-length c.args.starts.now c.args.rows.now (length c.args.parent.now) c.args.l_starts.now (length c.args.l_rows.now) c.requires.laid, c.requires.stamp_len.2)
 
 pub link-requires : goal.link-requires
-link-requires c =
-    (
-      parents-good c.args.starts.now c.args.rows.now (length c.args.parent.now) c.args.parent.now c.requires.tree,
-      heads-rise c.args.starts.now c.args.rows.now (length c.args.parent.now) c.args.l_starts.now (length c.args.l_rows.now) c.requires.laid,
-      c.requires.stamp_len.1,
-    )
+link-requires c = (
+  parents-good c.args.starts.now c.args.rows.now (length c.args.parent.now) c.args.parent.now c.requires.tree,
+  heads-rise c.args.starts.now c.args.rows.now (length c.args.parent.now) c.args.l_starts.now (length c.args.l_rows.now) c.requires.laid,
+  c.requires.stamp_len.1,
+)
 
 pub loop-j-init : goal.loop-j-init
 loop-j-init c =

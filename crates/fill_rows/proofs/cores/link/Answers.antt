@@ -4,7 +4,7 @@ use mathlib.Core.Path.{refl, sym, ◌∙◌}
 use native.Mathlib.Omega.{arith}
 use Rattle.reach.specs.Reach.{none}
 use Rattle.symbolic.proofs.Climbs.{goes-up}
-use Rattle.fill_rows.proofs.Onward.{Linking, link-begins, link-turns, link-ends}
+use Rattle.fill_rows.proofs.Onward.{link-begins, link-turns, link-ends}
 use Rattle.fill_rows.proofs.cores.link.Goals as goal
 
 pub loop-k-init : goal.loop-k-init

@@ -1,10 +1,5 @@
 -- `fill_rows::cores::link` meets its contract. Assumes nothing.
-use Rattle.std.specs.Prelude.{◌-◌}
-use mathlib.Core.Path.{refl, sym, ◌∙◌}
-use native.Mathlib.Omega.{arith}
-use Rattle.reach.specs.Reach.{none}
-use Rattle.symbolic.proofs.Climbs.{goes-up}
-use Rattle.fill_rows.proofs.Onward.{Linking, link-begins, link-turns, link-ends}
+use Rattle.fill_rows.proofs.Onward.{Linking}
 use Rattle.fill_rows.proofs.cores.link.Given as goal
 
 abbrev pub invariant-loop-k : goal.invariant-loop-k

@@ -2,7 +2,6 @@
 -- three ways out. Assumes nothing.
 use Rattle.std.specs.Prelude.{◌+◌}
 use native.Mathlib.Omega.{arith}
-use borrow.Author.Rules.{rules}
 use Rattle.layout.specs.Layout.{Tables, tables}
 use Rattle.finish_column.proofs.StepLaws.{block-later}
 use Rattle.finish_column.proofs.FinishLaws.{block-fits, rows_fit, not_finite, poor, stored}
@@ -31,8 +30,11 @@ lay-2 s = tables s.args.sizes.now s.args.l_starts.now s.args.l_rows.now s.args.l
 pub store_at-requires : goal.store_at-requires
 store_at-requires c =
     let x = c.args in
-    let b = c.decompose_at-r in record { block_fit = block-later x.sizes.now x.places.now x.unit_starts.now x.d_starts.now x.j _ _ _ _ _ b.auto.diag b.auto.d
-          (block-fits (lay-2 c) x.unit_starts.now x.d_starts.now x.places.now x.j _ _ _ _ c.requires.rows_laid c.requires.diagonal_laid c.requires.placed); store_fit = rows_fit (lay-2 c) x.unit_starts.now x.d_starts.now x.places.now x.j _ _ _ _ c.requires.rows_laid c.requires.diagonal_laid c.requires.placed }
+    let b = c.decompose_at-r in record {
+      block_fit = block-later x.sizes.now x.places.now x.unit_starts.now x.d_starts.now x.j _ _ _ _ _ b.auto.diag b.auto.d
+          (block-fits (lay-2 c) x.unit_starts.now x.d_starts.now x.places.now x.j _ _ _ _ c.requires.rows_laid c.requires.diagonal_laid c.requires.placed);
+      store_fit = rows_fit (lay-2 c) x.unit_starts.now x.d_starts.now x.places.now x.j _ _ _ _ c.requires.rows_laid c.requires.diagonal_laid c.requires.placed;
+    }
 
 abbrev lay-3 : goal.After-slice_known-in-Accepted-1 → Tables
 lay-3 s = tables s.args.sizes.now s.args.l_starts.now s.args.l_rows.now s.args.l_offsets.now

@@ -7,7 +7,7 @@ use borrow.Author.Rules.{rules}
 use borrow.Rule.Slice.PartMut.{mid_len, same_len_mid}
 use Rattle.tables.specs.Verdict.{at}
 use Rattle.block_product.specs.Working.{slot}
-use Rattle.finish_column.proofs.StepLaws.{UpTo, none-stored, one_more, all_stored}
+use Rattle.finish_column.proofs.StepLaws.{none-stored, one_more, all_stored}
 use Rattle.finish_column.proofs.cores.store_rows.Goals as goal
 
 pub loop-u-init : goal.loop-u-init

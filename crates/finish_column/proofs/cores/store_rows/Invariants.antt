@@ -1,13 +1,6 @@
 -- `finish_column::cores::store_rows` meets its contract: the invariant: the rows before place u are stored (`UpTo`). Assumes nothing.
-use Rattle.std.specs.Prelude.{◌≡◌, ◌+◌, ◌-◌, ◌*◌, ◌<◌, ◌≤◌, length}
-use mathlib.Core.Path.{refl, sym, ap, ◌∙◌}
-use native.Mathlib.Nat.{add-sub_cancel_left}
-use native.Mathlib.Omega.{arith}
-use borrow.Author.Rules.{rules}
-use borrow.Rule.Slice.PartMut.{mid_len, same_len_mid}
-use Rattle.tables.specs.Verdict.{at}
-use Rattle.block_product.specs.Working.{slot}
-use Rattle.finish_column.proofs.StepLaws.{UpTo, none-stored, one_more, all_stored}
+use Rattle.std.specs.Prelude.{◌≡◌, ◌-◌, ◌≤◌, length}
+use Rattle.finish_column.proofs.StepLaws.{UpTo}
 use Rattle.finish_column.proofs.cores.store_rows.Given as goal
 
 abbrev pub invariant-loop-u : goal.invariant-loop-u

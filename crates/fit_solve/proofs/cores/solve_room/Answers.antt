@@ -1,10 +1,9 @@
 -- `fit_solve::cores::solve_room` meets its contract: each part of the scratch has exactly its need. Assumes nothing.
-use Rattle.std.specs.Prelude.{◌≡◌, ℕ, ◌+◌, ◌≤◌, List, length, take, replicate}
-use mathlib.Core.Path.{refl, sym, ◌∙◌}
+use Rattle.std.specs.Prelude.{◌≡◌, ℕ, ◌+◌, ◌≤◌, length, take, replicate}
+use mathlib.Core.Path.{sym, ◌∙◌}
 use native.Mathlib.Omega.{arith}
 use lib.ListN.{length-replicate}
 use lib.Seq.{length-take-le}
-use borrow.Author.Rules.{rules}
 use Rattle.scalar.specs.Scalar.{nought}
 use Rattle.fit_solve.proofs.cores.solve_room.Goals as goal
 
@@ -26,10 +25,13 @@ slice_bounds-solve_core-end-4 c = part 0 (length c.args.dims.now + 1) 129 (omega
 
 pub solve_core-requires : goal.solve_core-requires
 solve_core-requires c =
-    record { solvable = c.requires.solvable; solve_room = record {
+    record {
+      solvable = c.requires.solvable;
+      solve_room = record {
         of_x = c.requires.dims_len_bound.1;
         of_y = sym (part nought (length c.args.x.now) 512 c.requires.dims_len_bound.2) ∙ c.requires.dims_len_bound.1;
         of_perm = sym (part 0 (length c.args.x.now) 512 c.requires.dims_len_bound.2) ∙ c.requires.dims_len_bound.1;
         of_sizes = sym (part 0 (length c.args.dims.now) 128 c.requires.dims_len_bound.0);
         of_starts = sym (part 0 (length c.args.dims.now + 1) 129 (omega (arith, c.requires.dims_len_bound.0)));
-      } }
+      };
+    }

@@ -1,11 +1,10 @@
 -- `forward::cores::forward` meets its contract: the invariant: the first j columns are done. Assumes nothing.
-use Rattle.std.specs.Prelude.{◌≡◌, ◌-◌, ◌≤◌, length}
+use Rattle.std.specs.Prelude.{length}
 use mathlib.Core.Path.{refl, sym, subst, ◌∙◌}
 use native.Mathlib.Omega.{arith}
 use borrow.Author.Rules.{rules}
 use Rattle.layout.specs.Layout.{Tables, tables}
 use Rattle.solution.specs.Flat.{BlocksLaid}
-use Rattle.forward.specs.Forward.{Forwards}
 use Rattle.forward.proofs.ForwardLaws.{columns_none, columns_more, columns_all}
 use Rattle.forward.proofs.cores.forward.Goals as goal
 

@@ -1,12 +1,7 @@
 -- `forward::cores::forward` meets its contract: the invariant: the first j columns are done. Assumes nothing.
 use Rattle.std.specs.Prelude.{◌≡◌, ◌-◌, ◌≤◌, length}
-use mathlib.Core.Path.{refl, sym, subst, ◌∙◌}
-use native.Mathlib.Omega.{arith}
-use borrow.Author.Rules.{rules}
-use Rattle.layout.specs.Layout.{Tables, tables}
-use Rattle.solution.specs.Flat.{BlocksLaid}
+use Rattle.layout.specs.Layout.{tables}
 use Rattle.forward.specs.Forward.{Forwards}
-use Rattle.forward.proofs.ForwardLaws.{columns_none, columns_more, columns_all}
 use Rattle.forward.proofs.cores.forward.Given as goal
 
 abbrev pub invariant-loop-j : goal.invariant-loop-j

@@ -1,13 +1,7 @@
 -- `forward::cores::forward_column` meets its contract: the invariant: the rows before place u are done (`UpTo`). Assumes nothing.
-use Rattle.std.specs.Prelude.{◌≡◌, ◌+◌, ◌-◌, ◌≤◌, length}
-use mathlib.Core.Path.{refl, sym, subst, ◌∙◌}
-use native.Mathlib.Omega.{arith}
-use borrow.Author.Rules.{rules}
-use Rattle.tables.specs.Verdict.{at}
-use Rattle.layout.specs.Layout.{Tables, tables}
-use Rattle.solution.specs.Flat.{BlocksLaid}
-use Rattle.solution.proofs.VectorLaws.{row_fits}
-use Rattle.forward.proofs.ForwardLaws.{UpTo, up_none, up_more, up_all}
+use Rattle.std.specs.Prelude.{◌≡◌, ◌-◌, ◌≤◌, length}
+use Rattle.layout.specs.Layout.{tables}
+use Rattle.forward.proofs.ForwardLaws.{UpTo}
 use Rattle.forward.proofs.cores.forward_column.Given as goal
 
 abbrev pub invariant-loop-u : goal.invariant-loop-u

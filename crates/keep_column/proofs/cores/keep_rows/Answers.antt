@@ -1,10 +1,10 @@
 -- `keep_column::cores::keep_rows` meets its contract. Assumes nothing.
-use Rattle.std.specs.Prelude.{◌≡◌, ◌+◌, ◌-◌, ◌*◌, ◌<◌, ◌≤◌, length}
+use Rattle.std.specs.Prelude.{◌+◌, ◌*◌, ◌<◌, ◌≤◌, length}
 use mathlib.Core.Path.{refl, ◌∙◌}
 use native.Mathlib.Omega.{arith}
 use borrow.Author.Rules.{rules}
 use Rattle.tables.specs.Verdict.{at}
-use Rattle.keep_column.proofs.KeepLaws.{UpTo, none_kept, one_more, all_kept}
+use Rattle.keep_column.proofs.KeepLaws.{none_kept, one_more, all_kept}
 use Rattle.keep_column.proofs.cores.keep_rows.Goals as goal
 
 pub offset_bounds-sizes-k : goal.offset_bounds-sizes-k

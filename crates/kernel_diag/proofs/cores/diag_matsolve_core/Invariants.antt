@@ -1,10 +1,8 @@
 -- `kernel_diag::cores::diag_matsolve_core` meets its contract: two loops, two invariants: how far each loop of the definition is. Assumes nothing.
 use Rattle.std.specs.Prelude.{◌≡◌, ◌-◌, ◌*◌, ◌≤◌, length, get_or}
 use lib.Ieee.{nan}
-use borrow.Author.Rules.{rules}
 use Rattle.scalar.specs.Loop.{steps}
-use Rattle.scalar.proofs.Laws.{steps_next, steps_all, kernels}
-use Rattle.kernel_diag.specs.Diag.{inverse, scale_row, diag_matsolve}
+use Rattle.kernel_diag.specs.Diag.{inverse, scale_row}
 use Rattle.kernel_diag.proofs.cores.diag_matsolve_core.Given as goal
 
 abbrev pub invariant-loop-c : goal.invariant-loop-c

@@ -1,10 +1,8 @@
 -- `kernel_diag::cores::diag_solve_core` meets its contract: the invariant: how far the loop of the definition is. Assumes nothing.
 use Rattle.std.specs.Prelude.{◌≡◌, ◌-◌, ◌≤◌, length, get_or, set}
 use lib.Ieee.{nan}
-use borrow.Author.Rules.{rules}
 use Rattle.scalar.specs.Loop.{steps}
-use Rattle.scalar.proofs.Laws.{steps_next, kernels}
-use Rattle.kernel_diag.specs.Diag.{quotient, diag_solve}
+use Rattle.kernel_diag.specs.Diag.{quotient}
 use Rattle.kernel_diag.proofs.cores.diag_solve_core.Given as goal
 
 abbrev pub invariant-loop-i : goal.invariant-loop-i

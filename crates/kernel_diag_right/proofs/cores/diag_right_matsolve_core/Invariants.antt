@@ -1,11 +1,9 @@
 -- `kernel_diag_right::cores::diag_right_matsolve_core` meets its contract: two loops, two invariants: how far each loop of the definition is. Assumes nothing.
 use Rattle.std.specs.Prelude.{◌≡◌, ◌-◌, ◌*◌, ◌≤◌, length, get_or}
 use lib.Ieee.{nan}
-use borrow.Author.Rules.{rules}
 use Rattle.scalar.specs.Loop.{steps}
-use Rattle.scalar.proofs.Laws.{steps_next, steps_all, kernels}
 use Rattle.kernel_diag.specs.Diag.{inverse}
-use Rattle.kernel_diag_right.specs.DiagRight.{scale_column, diag_right_matsolve}
+use Rattle.kernel_diag_right.specs.DiagRight.{scale_column}
 use Rattle.kernel_diag_right.proofs.cores.diag_right_matsolve_core.Given as goal
 
 abbrev pub invariant-loop-r : goal.invariant-loop-r

@@ -1,12 +1,10 @@
 -- `kernel_lower::cores::lower_matsolve_core` meets its contract: a turn changes one column, which lies in the block. Assumes nothing.
-use Rattle.std.specs.Prelude.{◌≡◌, ◌+◌, ◌-◌, ◌*◌, ◌≤◌, length}
+use Rattle.std.specs.Prelude.{◌+◌, ◌*◌, ◌≤◌, length}
 use native.Mathlib.Nat.{add-sub_cancel_left}
 use native.Mathlib.Omega.{arith}
 use borrow.Author.Rules.{rules}
-use Rattle.scalar.specs.Loop.{steps}
-use Rattle.scalar.specs.Block.{within}
 use Rattle.scalar.proofs.Laws.{steps_next, column, kernels}
-use Rattle.kernel_lower.specs.Lower.{lower_solve, lower_matsolve}
+use Rattle.kernel_lower.specs.Lower.{lower_matsolve}
 use Rattle.kernel_lower.proofs.cores.lower_matsolve_core.Goals as goal
 
 pub loop-c-preserved : goal.loop-c-preserved

@@ -1,11 +1,9 @@
 -- `kernel_lower::cores::lower_solve_core` meets its contract: two loops, two invariants: how far each loop of the definition is. Assumes nothing.
 use Rattle.std.specs.Prelude.{◌≡◌, ◌-◌, ◌≤◌, length, get_or}
 use lib.Ieee.{nan}
-use borrow.Author.Rules.{rules}
 use Rattle.scalar.specs.Loop.{steps}
 use Rattle.scalar.specs.Block.{at, lose}
-use Rattle.kernel_lower.specs.Lower.{lower_row, lower_solve}
-use Rattle.scalar.proofs.Laws.{steps_next, steps_all, kernels}
+use Rattle.kernel_lower.specs.Lower.{lower_row}
 use Rattle.kernel_lower.proofs.cores.lower_solve_core.Given as goal
 
 abbrev pub invariant-loop-k : goal.invariant-loop-k

@@ -1,5 +1,4 @@
 -- `kernel_lower::cores::matsolve_shapes` meets its contract: one check after the other. Assumes nothing.
-use borrow.Author.Rules.{rules}
 use Rattle.kernel_lower.specs.Lower.{matsolve_verdict}
 use Rattle.kernel_lower.proofs.cores.matsolve_shapes.Goals as goal
 

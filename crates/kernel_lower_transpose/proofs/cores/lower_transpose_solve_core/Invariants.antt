@@ -1,11 +1,9 @@
 -- `kernel_lower_transpose::cores::lower_transpose_solve_core` meets its contract: as `kernel_lower::cores::lower_solve_core`; the indices count down, the loops do not. Assumes nothing.
 use Rattle.std.specs.Prelude.{◌≡◌, ◌+◌, ◌-◌, ◌≤◌, length, get_or}
 use lib.Ieee.{nan}
-use borrow.Author.Rules.{rules}
 use Rattle.scalar.specs.Loop.{steps}
 use Rattle.scalar.specs.Block.{at, lose}
-use Rattle.kernel_lower_transpose.specs.Transpose.{transpose_row, lower_transpose_solve}
-use Rattle.scalar.proofs.Laws.{steps_next, steps_all, kernels}
+use Rattle.kernel_lower_transpose.specs.Transpose.{transpose_row}
 use Rattle.kernel_lower_transpose.proofs.cores.lower_transpose_solve_core.Given as goal
 
 abbrev pub invariant-loop-u : goal.invariant-loop-u

@@ -1,10 +1,8 @@
 -- `kernel_product::cores::add_mat_diag_mat_t_core` meets its contract: three loops, three invariants: how far each loop of the definition is. Assumes nothing.
 use Rattle.std.specs.Prelude.{◌≡◌, ◌-◌, ◌*◌, ◌≤◌, length}
-use borrow.Author.Rules.{rules}
 use Rattle.scalar.specs.Loop.{steps}
 use Rattle.scalar.specs.Block.{gain}
-use Rattle.kernel_product.specs.Product.{change_entry, change_column, add_mat_diag_mat_t}
-use Rattle.scalar.proofs.Laws.{steps_next, steps_all, kernels}
+use Rattle.kernel_product.specs.Product.{change_entry, change_column}
 use Rattle.kernel_product.proofs.cores.add_mat_diag_mat_t_core.Given as goal
 
 abbrev pub invariant-loop-i : goal.invariant-loop-i

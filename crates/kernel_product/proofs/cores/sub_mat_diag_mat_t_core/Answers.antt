@@ -1,9 +1,6 @@
 -- `kernel_product::cores::sub_mat_diag_mat_t_core` meets its contract: three loops, three invariants: how far each loop of the definition is. Assumes nothing.
-use Rattle.std.specs.Prelude.{◌≡◌, ◌-◌, ◌*◌, ◌≤◌, length}
 use borrow.Author.Rules.{rules}
-use Rattle.scalar.specs.Loop.{steps}
-use Rattle.scalar.specs.Block.{lose}
-use Rattle.kernel_product.specs.Product.{change_entry, change_column, sub_mat_diag_mat_t}
+use Rattle.kernel_product.specs.Product.{sub_mat_diag_mat_t}
 use Rattle.scalar.proofs.Laws.{steps_next, steps_all, kernels}
 use Rattle.kernel_product.proofs.cores.sub_mat_diag_mat_t_core.Goals as goal
 

@@ -1,8 +1,5 @@
 -- `kernel_right::cores::less_after` meets its contract: the invariant: how far the sum is. Assumes nothing.
-use Rattle.std.specs.Prelude.{◌≡◌, ◌+◌, ◌-◌, ◌≤◌}
 use borrow.Author.Rules.{rules}
-use Rattle.scalar.specs.Loop.{steps}
-use Rattle.scalar.specs.Block.{at, lose}
 use Rattle.scalar.proofs.Laws.{steps_next, kernels}
 use Rattle.kernel_right.proofs.cores.less_after.Goals as goal
 

@@ -1,9 +1,7 @@
 -- `kernel_right::cores::lower_right_solve_core` meets its contract: two loops, two invariants: how far each loop of the definition is. Assumes nothing.
-use Rattle.std.specs.Prelude.{◌≡◌, ◌+◌, ◌-◌, ◌*◌, ◌≤◌, length}
 use borrow.Author.Rules.{rules}
-use Rattle.scalar.specs.Loop.{steps}
 use Rattle.scalar.proofs.Laws.{steps_next, kernels}
-use Rattle.kernel_right.specs.Right.{right_entry, lower_right_solve}
+use Rattle.kernel_right.specs.Right.{lower_right_solve}
 use Rattle.kernel_right.proofs.cores.lower_right_solve_core.Goals as goal
 
 pub loop-u-preserved : goal.loop-u-preserved

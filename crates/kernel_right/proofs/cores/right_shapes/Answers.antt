@@ -1,5 +1,4 @@
 -- `kernel_right::cores::right_shapes` meets its contract: one check after the other. Assumes nothing.
-use borrow.Author.Rules.{rules}
 use Rattle.kernel_right.specs.Right.{right_verdict}
 use Rattle.kernel_right.proofs.cores.right_shapes.Goals as goal
 

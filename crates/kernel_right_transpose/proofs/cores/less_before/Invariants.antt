@@ -1,9 +1,7 @@
 -- `kernel_right_transpose::cores::less_before` meets its contract: the invariant: how far the sum is. Assumes nothing.
 use Rattle.std.specs.Prelude.{◌≡◌, ◌-◌, ◌≤◌}
-use borrow.Author.Rules.{rules}
 use Rattle.scalar.specs.Loop.{steps}
 use Rattle.scalar.specs.Block.{at, lose}
-use Rattle.scalar.proofs.Laws.{steps_next, kernels}
 use Rattle.kernel_right_transpose.proofs.cores.less_before.Given as goal
 
 abbrev pub invariant-loop-t : goal.invariant-loop-t

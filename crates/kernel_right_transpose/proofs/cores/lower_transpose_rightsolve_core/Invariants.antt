@@ -1,9 +1,7 @@
 -- `kernel_right_transpose::cores::lower_transpose_rightsolve_core` meets its contract: two loops, two invariants: how far each loop of the definition is. Assumes nothing.
 use Rattle.std.specs.Prelude.{◌≡◌, ◌-◌, ◌*◌, ◌≤◌, length}
-use borrow.Author.Rules.{rules}
 use Rattle.scalar.specs.Loop.{steps}
-use Rattle.scalar.proofs.Laws.{steps_next, kernels}
-use Rattle.kernel_right_transpose.specs.RightTranspose.{transpose_entry, lower_transpose_rightsolve}
+use Rattle.kernel_right_transpose.specs.RightTranspose.{transpose_entry}
 use Rattle.kernel_right_transpose.proofs.cores.lower_transpose_rightsolve_core.Given as goal
 
 abbrev pub invariant-loop-j : goal.invariant-loop-j

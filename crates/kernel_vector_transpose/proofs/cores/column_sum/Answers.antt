@@ -1,10 +1,5 @@
 -- `kernel_vector_transpose::cores::column_sum` meets its contract: the invariant: how far the sum is. Assumes nothing.
-use Rattle.std.specs.Prelude.{◌≡◌, ◌-◌, ◌≤◌, get_or}
-use lib.Ieee.{nan}
 use borrow.Author.Rules.{rules}
-use Rattle.scalar.specs.Loop.{steps}
-use Rattle.scalar.specs.Block.{at, gain}
-use Rattle.scalar.specs.Scalar.{nought}
 use Rattle.scalar.proofs.Laws.{steps_next, kernels}
 use Rattle.kernel_vector_transpose.proofs.cores.column_sum.Goals as goal
 

@@ -1,8 +1,5 @@
 -- `kernel_vector_transpose::cores::sub_mat_transpose_plus_vec_core` meets its contract: the invariant: how far the loop of the definition is. Assumes nothing.
-use Rattle.std.specs.Prelude.{◌≡◌, ◌-◌, ◌≤◌, length, get_or, set}
-use lib.Ieee.{nan, binary64, sub}
 use borrow.Author.Rules.{rules}
-use Rattle.scalar.specs.Loop.{steps}
 use Rattle.scalar.proofs.Laws.{steps_next, kernels}
 use Rattle.kernel_vector_transpose.specs.VectorTranspose.{column_sum, sub_mat_transpose_plus_vec}
 use Rattle.kernel_vector_transpose.proofs.cores.sub_mat_transpose_plus_vec_core.Goals as goal

@@ -1,10 +1,9 @@
 -- `layout::cores::square` meets its contract. Assumes nothing.
-use Rattle.std.specs.Prelude.{◌-◌, ◌*◌, length, get_or}
+use Rattle.std.specs.Prelude.{◌*◌, get_or}
 use mathlib.Core.Path.{sym, ◌∙◌}
 use native.Mathlib.Nat.{mul-le-mul}
 use native.Mathlib.Omega.{arith}
-use borrow.Author.Rules.{rules}
-use Rattle.scalars.proofs.Filling.{Filled, filled_none, filled_more, filled_all}
+use Rattle.scalars.proofs.Filling.{filled_none, filled_more, filled_all}
 use Rattle.layout.specs.Layout.{squares}
 use Rattle.layout.proofs.DiagonalLaws.{length-squares, squares-at}
 use Rattle.layout.proofs.cores.square.Goals as goal

@@ -1,12 +1,7 @@
 -- `layout::cores::square` meets its contract. Assumes nothing.
-use Rattle.std.specs.Prelude.{◌-◌, ◌*◌, length, get_or}
-use mathlib.Core.Path.{sym, ◌∙◌}
-use native.Mathlib.Nat.{mul-le-mul}
-use native.Mathlib.Omega.{arith}
-use borrow.Author.Rules.{rules}
-use Rattle.scalars.proofs.Filling.{Filled, filled_none, filled_more, filled_all}
+use Rattle.std.specs.Prelude.{◌-◌, length}
+use Rattle.scalars.proofs.Filling.{Filled}
 use Rattle.layout.specs.Layout.{squares}
-use Rattle.layout.proofs.DiagonalLaws.{length-squares, squares-at}
 use Rattle.layout.proofs.cores.square.Given as goal
 
 abbrev pub invariant-loop-k : goal.invariant-loop-k

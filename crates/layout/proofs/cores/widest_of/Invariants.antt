@@ -1,10 +1,6 @@
 -- `layout::cores::widest_of` meets its contract. Assumes nothing.
-use Rattle.std.specs.Prelude.{◌≡◌, ◌-◌, ◌≤◌, max, length, get_or, drop}
-use mathlib.Core.Logic.{⊎_elim}
-use native.Mathlib.Omega.{arith}
-use borrow.Author.Rules.{rules}
+use Rattle.std.specs.Prelude.{◌≡◌, ◌-◌, ◌≤◌, max, length, drop}
 use Rattle.layout.specs.Layout.{widest}
-use Rattle.layout.proofs.DiagonalLaws.{widest-turn, widest-end}
 use Rattle.layout.proofs.cores.widest_of.Given as goal
 
 abbrev pub invariant-loop-k : goal.invariant-loop-k

@@ -1,9 +1,8 @@
 -- `load_column::cores::find_row` meets its contract: the search by halving (`Halved`). Assumes nothing.
-use Rattle.std.specs.Prelude.{◌≡◌, ◌+◌, ◌-◌, ◌/◌}
+use Rattle.std.specs.Prelude.{◌+◌, ◌-◌, ◌/◌}
 use mathlib.Core.Path.{refl}
 use native.Mathlib.Omega.{arith}
-use Rattle.tables.specs.Verdict.{at}
-use Rattle.load_column.proofs.FindLaws.{Halved, halved_none, halved-up, halved_down, found, none_left, other_row}
+use Rattle.load_column.proofs.FindLaws.{halved_none, halved-up, halved_down, found, none_left, other_row}
 use Rattle.load_column.proofs.cores.find_row.Goals as goal
 
 pub loop-lo-init : goal.loop-lo-init

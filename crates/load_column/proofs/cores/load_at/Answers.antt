@@ -3,7 +3,6 @@ use Rattle.std.specs.Prelude.{◌+◌, ◌*◌, ◌<◌, length}
 use mathlib.Core.Path.{refl, ◌∙◌}
 use native.Mathlib.Nat.{add-sub_cancel_left}
 use native.Mathlib.Omega.{arith}
-use borrow.Author.Rules.{rules}
 use borrow.Rule.Slice.PartMut.{mid_len}
 use Rattle.tables.specs.Verdict.{at}
 use Rattle.load_column.proofs.SourceLaws.{kept, ordered-all, sized-all, old_below, area-is}

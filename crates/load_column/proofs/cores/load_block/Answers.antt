@@ -2,7 +2,6 @@
 use mathlib.Core.Path.{◌∙◌}
 use native.Mathlib.Nat.{mul_comm}
 use native.Mathlib.Omega.{arith}
-use borrow.Author.Rules.{rules}
 use Rattle.tables.specs.Verdict.{at}
 use Rattle.load_column.proofs.StoredLaws.{block-rises, block_falls}
 use Rattle.load_column.proofs.cores.load_block.Goals as goal

@@ -1,5 +1,4 @@
 -- `load_column::cores::load_body` meets its contract: by cases. Assumes nothing.
-use borrow.Author.Rules.{rules}
 use Rattle.load_column.proofs.cores.load_body.Goals as goal
 
 pub returns-then-above : goal.returns-then-above

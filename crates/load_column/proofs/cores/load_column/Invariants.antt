@@ -1,13 +1,9 @@
 -- `load_column::cores::load_column` meets its contract: the invariant: the rows before place u are loaded (`UpTo`). Assumes nothing.
-use Rattle.std.specs.Prelude.{◌≡◌, ℕ, ◌+◌, ◌-◌, ◌*◌, ◌<◌, ◌≤◌, List, length}
-use mathlib.Core.Path.{refl, ◌∙◌}
-use native.Mathlib.Omega.{arith}
-use lib.Ieee.{Float}
+use Rattle.std.specs.Prelude.{◌≡◌, ◌+◌, ◌-◌, ◌≤◌, length}
 use Rattle.tables.specs.Verdict.{at}
-use Rattle.layout.specs.Layout.{Tables, tables, side, start_of, stop_of}
+use Rattle.layout.specs.Layout.{tables}
 use Rattle.load_column.specs.Blocks.{block_at}
-use Rattle.load_column.proofs.ColumnLaws.{UpTo, RowFits, row_fits, up_none, up_more}
-use Rattle.load_column.proofs.MeaningLaws.{block-length, column-loaded}
+use Rattle.load_column.proofs.ColumnLaws.{UpTo}
 use Rattle.load_column.proofs.cores.load_column.Given as goal
 
 abbrev pub invariant-loop-u : goal.invariant-loop-u

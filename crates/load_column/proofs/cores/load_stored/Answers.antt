@@ -2,7 +2,6 @@
 use Rattle.std.specs.Prelude.{◌+◌}
 use mathlib.Core.Path.{sym, ap, ◌∙◌}
 use native.Mathlib.Omega.{arith}
-use borrow.Author.Rules.{rules}
 use Rattle.scalar.specs.Block.{zeros}
 use Rattle.load_column.proofs.StoredLaws.{BodyFits, column-rises, stored_fits, block_found, missing_is}
 use Rattle.load_column.proofs.cores.load_stored.Goals as goal

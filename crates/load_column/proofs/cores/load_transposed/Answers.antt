@@ -1,12 +1,12 @@
 -- `load_column::cores::load_transposed` meets its contract. Assumes nothing.
-use Rattle.std.specs.Prelude.{◌≡◌, ℕ, ◌+◌, ◌-◌, ◌*◌, ◌≤◌}
+use Rattle.std.specs.Prelude.{◌≡◌, ℕ, ◌*◌}
 use mathlib.Core.Path.{sym, ap, ◌∙◌}
 use native.Mathlib.Nat.{suc-mul}
 use native.Mathlib.Omega.{arith}
 use native.Mathlib.Numerals.{add-one}
 use borrow.Author.Rules.{rules}
 use Rattle.scalars.specs.Bodies.{transposed}
-use Rattle.scalars.proofs.Filling.{Filled, filled_none, filled_all}
+use Rattle.scalars.proofs.Filling.{filled_none, filled_all}
 use Rattle.load_column.proofs.BodyLaws.{added, turned-length, turned-inside, turned_turn}
 use Rattle.load_column.proofs.cores.load_transposed.Goals as goal
 

@@ -2,7 +2,6 @@
 use Rattle.std.specs.Prelude.{◌≡◌, ◌+◌, length, take}
 use mathlib.Core.Path.{sym, ap, ◌∙◌}
 use lib.Seq.{length-take-le, take_at}
-use borrow.Author.Rules.{rules}
 use Rattle.marks.proofs.cores.mark_core.Goals as goal
 
 -- the room for the starts

@@ -1,16 +1,15 @@
 -- `marks::cores::mark_scalars` meets its contract: the invariants: the first scalars by new number are marked and counted (`UpTo`). Assumes nothing.
-use Rattle.std.specs.Prelude.{◌≡◌, ◌+◌, ◌-◌, ◌<◌, ◌≤◌, length}
+use Rattle.std.specs.Prelude.{◌+◌, ◌<◌, ◌≤◌, length}
 use mathlib.Core.Path.{sym, ap, ◌∙◌}
 use native.Mathlib.Omega.{arith}
 use borrow.Author.Rules.{rules}
-use Rattle.buckets.specs.Buckets.{before}
 use Rattle.tables.specs.Verdict.{at}
 use Rattle.order.specs.Order.{sizes_of}
 use Rattle.scalars.specs.Scalars.{scalar_count}
 use Rattle.scalars.proofs.ScalarLaws.{nothing-before}
 use Rattle.factor_tables.proofs.NeedLaws.{few-scalars}
 use Rattle.marks.specs.Mark.{byte_of, silent_one}
-use Rattle.marks.proofs.MarkLaws.{UpTo, up_none, old_below, old-known, inside, entry-inside, up_more, block_next, up_all, all_places, one-most}
+use Rattle.marks.proofs.MarkLaws.{up_none, old_below, old-known, inside, entry-inside, up_more, block_next, up_all, all_places, one-most}
 use Rattle.marks.proofs.cores.mark_scalars.Goals as goal
 
 pub loop-k-init : goal.loop-k-init

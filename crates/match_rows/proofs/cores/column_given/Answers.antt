@@ -1,5 +1,4 @@
 -- `match_rows::cores::column_given` meets its contract. Assumes nothing.
-use borrow.Author.Rules.{rules}
 use Rattle.match_rows.proofs.StrayLaws.{stamped-long, stamped-low, column-tested}
 use Rattle.match_rows.proofs.cores.column_given.Goals as goal
 

@@ -1,12 +1,8 @@
 -- `match_rows::cores::first_off` meets its contract: a search, one turn a column. Assumes nothing.
 use Rattle.std.specs.Prelude.{◌-◌, length}
-use Prim.Native.Nat.{zero-le}
-use native.Mathlib.Omega.{arith}
-use borrow.Author.Rules.{rules}
 use Rattle.graph.specs.Links.{rows_in}
-use Rattle.tables.proofs.SearchLaws.{Searched, searched, passed, failed, ended}
+use Rattle.tables.proofs.SearchLaws.{Searched}
 use Rattle.match_rows.specs.Rows.{headed}
-use Rattle.match_rows.proofs.HalvedLaws.{rises-of}
 use Rattle.match_rows.proofs.cores.first_off.Given as goal
 
 abbrev pub invariant-loop-k : goal.invariant-loop-k

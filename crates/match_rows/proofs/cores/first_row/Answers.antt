@@ -1,7 +1,6 @@
 -- `match_rows::cores::first_row` meets its contract. Assumes nothing.
 use Rattle.std.specs.Prelude.{ℕ, List}
 use mathlib.Core.Path.{sym, ap}
-use borrow.Author.Rules.{rules}
 use Rattle.graph.specs.Symbolic.{first}
 use Rattle.elimination_tree.specs.Tree.{code}
 use Rattle.match_rows.proofs.HalvedLaws.{column-some, column-none}

@@ -1,14 +1,11 @@
 -- `match_rows::cores::first_stray` meets its contract: a search, one turn a column. Assumes nothing.
-use Rattle.std.specs.Prelude.{◌≡◌, ℕ, ◌-◌, ◌<◌, ◌≤◌, length}
+use Rattle.std.specs.Prelude.{ℕ}
 use Prim.Native.Nat.{zero-le}
 use mathlib.Core.Path.{refl}
 use native.Mathlib.Omega.{arith}
-use borrow.Author.Rules.{rules}
 use lib.ListN.{length-replicate, get_or-replicate}
-use Rattle.graph.specs.Links.{rows_in}
-use Rattle.tables.specs.Verdict.{at}
-use Rattle.tables.proofs.SearchLaws.{Searched, searched, passed, failed, ended}
-use Rattle.match_rows.specs.Rows.{given_in, column_given, Families}
+use Rattle.tables.proofs.SearchLaws.{searched, passed, failed, ended}
+use Rattle.match_rows.specs.Rows.{column_given}
 use Rattle.match_rows.proofs.cores.first_stray.Goals as goal
 
 pub link_children-requires : goal.link_children-requires

@@ -1,13 +1,8 @@
 -- `match_rows::cores::first_stray` meets its contract: a search, one turn a column. Assumes nothing.
 use Rattle.std.specs.Prelude.{◌≡◌, ℕ, ◌-◌, ◌<◌, ◌≤◌, length}
-use Prim.Native.Nat.{zero-le}
-use mathlib.Core.Path.{refl}
-use native.Mathlib.Omega.{arith}
-use borrow.Author.Rules.{rules}
-use lib.ListN.{length-replicate, get_or-replicate}
 use Rattle.graph.specs.Links.{rows_in}
 use Rattle.tables.specs.Verdict.{at}
-use Rattle.tables.proofs.SearchLaws.{Searched, searched, passed, failed, ended}
+use Rattle.tables.proofs.SearchLaws.{Searched}
 use Rattle.match_rows.specs.Rows.{given_in, column_given, Families}
 use Rattle.match_rows.proofs.cores.first_stray.Given as goal
 

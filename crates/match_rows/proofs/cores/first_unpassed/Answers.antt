@@ -1,11 +1,10 @@
 -- `match_rows::cores::first_unpassed` meets its contract: the pairs of the columns before c have been passed (`Rowing`). Assumes nothing.
-use Rattle.std.specs.Prelude.{◌≡◌, ◌+◌, ◌-◌, ◌≤◌}
+use Rattle.std.specs.Prelude.{◌≡◌, ◌+◌}
 use Prim.Native.Nat.{zero-le}
 use native.Mathlib.Omega.{arith}
-use borrow.Author.Rules.{rules}
 use Rattle.tables.specs.Verdict.{at}
 use Rattle.match_rows.proofs.HalvedLaws.{rises-of}
-use Rattle.match_rows.proofs.PairLaws.{Rowing, rowing-none, rowing-empty, rowing-above, rowing-passed, rowing-down, rowing-all}
+use Rattle.match_rows.proofs.PairLaws.{rowing-none, rowing-empty, rowing-above, rowing-passed, rowing-down, rowing-all}
 use Rattle.match_rows.proofs.cores.first_unpassed.Goals as goal
 use Rattle.match_rows.proofs.cores.first_unpassed.Goals.{then-from-end+then-parent-least+then-unpassed_in-end, then-from-end+then-parent-least+else-unpassed_in-end, then-from-end+else-parent-least, else-from-end}
 
@@ -46,13 +45,13 @@ loop-c-preserved c =
     let starts = a.l_starts.now in
     let rows = a.l_rows.now in
     elim c.if-from-end.branch [
-      then-from-end+then-parent-least+then-unpassed_in-end w ↦
-        let k = w.wide-parent.ensures in
-        let u = rw (k, from) at w.unpassed_in.ensures in
-        (omega arith, rw (w.least-is, k, from) (rowing-down starts rows a.n s l.c l.least h l.invariant.1 w.unpassed_in.result u (rw (from, end) at w.if-from-end.true) (rw (k, from) at w.if-parent-least.true) (rw end at w.if-unpassed_in-end.true)))
+      | then-from-end+then-parent-least+then-unpassed_in-end w ↦
+          let k = w.wide-parent.ensures in
+          let u = rw (k, from) at w.unpassed_in.ensures in
+          (omega arith, rw (w.least-is, k, from) (rowing-down starts rows a.n s l.c l.least h l.invariant.1 w.unpassed_in.result u (rw (from, end) at w.if-from-end.true) (rw (k, from) at w.if-parent-least.true) (rw end at w.if-unpassed_in-end.true)))
       | then-from-end+then-parent-least+else-unpassed_in-end w ↦
-        let u = rw (w.wide-parent.ensures, from) at w.unpassed_in.ensures in
-        (omega arith, rw w.least-is (rowing-passed starts rows a.n s l.c l.least h l.invariant.1 w.unpassed_in.result u (rw end at w.if-unpassed_in-end.false)))
+          let u = rw (w.wide-parent.ensures, from) at w.unpassed_in.ensures in
+          (omega arith, rw w.least-is (rowing-passed starts rows a.n s l.c l.least h l.invariant.1 w.unpassed_in.result u (rw end at w.if-unpassed_in-end.false)))
       | then-from-end+else-parent-least w ↦ (omega arith, rw w.least-is (rowing-above starts rows a.n s l.c l.least h l.invariant.1 (rw (w.wide-parent.ensures, from) at w.if-parent-least.false)))
       | else-from-end w ↦ (omega arith, rw w.least-is (rowing-empty starts rows a.n s l.c l.least h l.invariant.1 (rw (from, end) at w.if-from-end.false)))
     ]

@@ -1,12 +1,7 @@
 -- `match_rows::cores::first_unpassed` meets its contract: the pairs of the columns before c have been passed (`Rowing`). Assumes nothing.
-use Rattle.std.specs.Prelude.{◌≡◌, ◌+◌, ◌-◌, ◌≤◌}
-use Prim.Native.Nat.{zero-le}
-use mathlib.Core.Logic.{⊎_elim}
-use native.Mathlib.Omega.{arith}
-use borrow.Author.Rules.{rules}
+use Rattle.std.specs.Prelude.{◌-◌, ◌≤◌}
 use Rattle.tables.specs.Verdict.{at}
-use Rattle.match_rows.proofs.HalvedLaws.{rises-of}
-use Rattle.match_rows.proofs.PairLaws.{Rowing, rowing-none, rowing-empty, rowing-above, rowing-passed, rowing-down, rowing-all}
+use Rattle.match_rows.proofs.PairLaws.{Rowing}
 use Rattle.match_rows.proofs.cores.first_unpassed.Given as goal
 
 abbrev pub invariant-loop-c : goal.invariant-loop-c

@@ -1,6 +1,5 @@
 -- `match_rows::cores::holds` meets its contract. Assumes nothing.
 use native.Mathlib.Omega.{arith}
-use borrow.Author.Rules.{rules}
 use Rattle.match_rows.proofs.HalvedLaws.{halved-at, holds-here, holds-none}
 use Rattle.match_rows.proofs.cores.holds.Goals as goal
 

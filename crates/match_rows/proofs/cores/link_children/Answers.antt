@@ -1,10 +1,7 @@
 -- `match_rows::cores::link_children` meets its contract: the lists of the columns before c are whole. Assumes nothing.
-use Rattle.std.specs.Prelude.{◌≡◌, ◌+◌, ◌-◌, ◌<◌, ◌≤◌}
+use Rattle.std.specs.Prelude.{◌≡◌, ◌+◌, ◌<◌}
 use Prim.Native.Nat.{zero-le}
 use native.Mathlib.Omega.{arith}
-use borrow.Author.Rules.{rules}
-use Rattle.graph.specs.Links.{rows_in}
-use Rattle.match_rows.specs.Rows.{Families}
 use Rattle.match_rows.proofs.HalvedLaws.{rises-of, heads-at, heads-none}
 use Rattle.match_rows.proofs.ChildLaws.{families-none, families_skip, families_next}
 use Rattle.tables.specs.Verdict.{at}
@@ -90,10 +87,10 @@ loop-c-preserved c =
     let rises = rises-of s.n_bound.1 l.c (omega arith) in
     let starts = a.l_starts.now in
     elim c.if-from-end.branch [
-      then-from-end w ↦
-        let some : at starts l.c < at starts (l.c + 1) = omega (arith, from, end, w.if-from-end.true) in
-        let below = (s.n_bound.1.ranged l.c (at starts l.c) (omega arith) (omega arith) some).1 in
-        rw (w.head-is, w.sibling-is) (omega arith, rw (w.wide-k.ensures, from) (families_next l.invariant.1 (at a.l_rows.now (at starts l.c)) (omega (arith, below, s.n_bound.0)) (omega (arith, s.n_bound.0)) (λ k. heads-at rises k some)))
+      | then-from-end w ↦
+          let some : at starts l.c < at starts (l.c + 1) = omega (arith, from, end, w.if-from-end.true) in
+          let below = (s.n_bound.1.ranged l.c (at starts l.c) (omega arith) (omega arith) some).1 in
+          rw (w.head-is, w.sibling-is) (omega arith, rw (w.wide-k.ensures, from) (families_next l.invariant.1 (at a.l_rows.now (at starts l.c)) (omega (arith, below, s.n_bound.0)) (omega (arith, s.n_bound.0)) (λ k. heads-at rises k some)))
       | else-from-end w ↦ rw (w.head-is, w.sibling-is) (omega arith, families_skip l.invariant.1 (λ k. heads-none rises k (rw (from, end) at w.if-from-end.false)))
     ]
 

@@ -1,14 +1,7 @@
 -- `match_rows::cores::link_children` meets its contract: the lists of the columns before c are whole. Assumes nothing.
-use Rattle.std.specs.Prelude.{◌≡◌, ◌+◌, ◌-◌, ◌<◌, ◌≤◌}
-use Prim.Native.Nat.{zero-le}
-use mathlib.Core.Logic.{⊎_elim}
-use native.Mathlib.Omega.{arith}
-use borrow.Author.Rules.{rules}
+use Rattle.std.specs.Prelude.{◌-◌, ◌≤◌}
 use Rattle.graph.specs.Links.{rows_in}
 use Rattle.match_rows.specs.Rows.{Families}
-use Rattle.match_rows.proofs.HalvedLaws.{rises-of, heads-at, heads-none}
-use Rattle.match_rows.proofs.ChildLaws.{families-none, families_skip, families_next}
-use Rattle.tables.specs.Verdict.{at}
 use Rattle.match_rows.proofs.cores.link_children.Given as goal
 
 abbrev pub invariant-loop-c : goal.invariant-loop-c

@@ -1,6 +1,5 @@
 -- `match_rows::cores::linked` meets its contract: of the two old numbers the greater is A's row. Assumes nothing.
 use mathlib.Core.Path.{◌∙◌}
-use borrow.Author.Rules.{rules}
 use Rattle.order.proofs.Laws.{below_at}
 use Rattle.match_rows.proofs.HalvedLaws.{rises-of}
 use Rattle.match_rows.proofs.PairLaws.{linked-same, linked-rises, linked-falls}

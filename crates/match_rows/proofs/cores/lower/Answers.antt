@@ -1,7 +1,5 @@
 -- `match_rows::cores::lower` meets its contract. Assumes nothing.
-use borrow.Author.Rules.{rules}
 use mathlib.Core.Path.{sym, ◌∙◌}
-use borrow.Author.Tests.{not-true, not-false}
 use Rattle.match_rows.proofs.LowLaws.{lowered-taken, lowered-listed, lowered-past}
 use Rattle.match_rows.proofs.cores.lower.Goals as goal
 

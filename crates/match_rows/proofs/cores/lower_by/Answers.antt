@@ -1,6 +1,5 @@
 -- `match_rows::cores::lower_by` meets its contract. Assumes nothing.
 use mathlib.Core.Path.{◌∙◌}
-use borrow.Author.Rules.{rules}
 use Rattle.graph.specs.Links.{rows_in}
 use Rattle.match_rows.proofs.PairLaws.{by-diagonal, by-rises, by-falls}
 use Rattle.match_rows.proofs.cores.lower_by.Goals as goal

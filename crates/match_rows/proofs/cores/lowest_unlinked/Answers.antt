@@ -1,12 +1,11 @@
 -- `match_rows::cores::lowest_unlinked` meets its contract: the pairs of A's places before u have been passed (`Storing`). Assumes nothing.
-use Rattle.std.specs.Prelude.{◌≡◌, ◌+◌, ◌-◌, ◌≤◌, length}
+use Rattle.std.specs.Prelude.{◌≡◌, ◌+◌, length}
 use Prim.Native.Nat.{zero-le}
 use native.Mathlib.Omega.{arith}
-use borrow.Author.Rules.{rules}
 use Rattle.graph.specs.Links.{rows_in}
 use Rattle.tables.specs.Verdict.{at}
 use Rattle.match_rows.proofs.HalvedLaws.{rises-of}
-use Rattle.match_rows.proofs.PairLaws.{Storing, storing-none, storing-next, storing_all}
+use Rattle.match_rows.proofs.PairLaws.{storing-none, storing-next, storing_all}
 use mathlib.Core.Path.{refl}
 use Rattle.match_rows.proofs.cores.lowest_unlinked.Goals as goal
 

@@ -1,5 +1,4 @@
 -- `match_rows::cores::parent_ok` meets its contract. Assumes nothing.
-use borrow.Author.Rules.{rules}
 use Rattle.match_rows.specs.Rows.{headed}
 use Rattle.match_rows.proofs.cores.parent_ok.Goals as goal
 

@@ -1,7 +1,6 @@
 -- `match_rows::cores::place_from` meets its contract: the search by halving (`Halved`), behind one comparison. Assumes nothing.
 use Rattle.std.specs.Prelude.{◌+◌, ◌-◌, ◌/◌}
 use native.Mathlib.Omega.{arith}
-use borrow.Author.Rules.{rules}
 use Rattle.tables.specs.Verdict.{at}
 use Rattle.load_column.proofs.FindLaws.{Halved, halved-up, halved_down}
 use Rattle.match_rows.proofs.HalvedLaws.{halved-from, place-met}
@@ -25,7 +24,7 @@ pub loop-lo-init : goal.loop-lo-init
 loop-lo-init c =
     let e = c.wide-hi.ensures in
     elim c.if-lo-hi.branch [
-      then-lo-hi+else-row-wide w ↦ rw (w.lo-is, e) (halved-up c.requires.column_rises (begun-2 c) c.args.from (omega arith) (omega (arith, e, w.if-lo-hi.true)) (rw w.wide.ensures at w.if-row-wide.false))
+      | then-lo-hi+else-row-wide w ↦ rw (w.lo-is, e) (halved-up c.requires.column_rises (begun-2 c) c.args.from (omega arith) (omega (arith, e, w.if-lo-hi.true)) (rw w.wide.ensures at w.if-row-wide.false))
       | else-lo-hi w ↦ rw (w.lo-is, e) (begun-2 c)
     ]
 

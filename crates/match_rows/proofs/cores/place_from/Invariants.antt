@@ -1,11 +1,6 @@
 -- `match_rows::cores::place_from` meets its contract: the search by halving (`Halved`), behind one comparison. Assumes nothing.
-use Rattle.std.specs.Prelude.{◌+◌, ◌-◌, ◌/◌}
-use mathlib.Core.Logic.{⊎_elim}
-use native.Mathlib.Omega.{arith}
-use borrow.Author.Rules.{rules}
-use Rattle.tables.specs.Verdict.{at}
-use Rattle.load_column.proofs.FindLaws.{Halved, halved-up, halved_down}
-use Rattle.match_rows.proofs.HalvedLaws.{halved-from, place-met}
+use Rattle.std.specs.Prelude.{◌-◌}
+use Rattle.load_column.proofs.FindLaws.{Halved}
 use Rattle.match_rows.proofs.cores.place_from.Given as goal
 
 abbrev pub invariant-loop-lo : goal.invariant-loop-lo

@@ -1,5 +1,4 @@
 -- `match_rows::cores::row_given` meets its contract. Assumes nothing.
-use borrow.Author.Rules.{rules}
 use borrow.Author.Tests.{eq-eqb, ne_eqb}
 use Rattle.tables.specs.Verdict.{at}
 use Rattle.match_rows.proofs.cores.row_given.Goals as goal

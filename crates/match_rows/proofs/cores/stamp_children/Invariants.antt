@@ -1,13 +1,8 @@
 -- `match_rows::cores::stamp_children` meets its contract: the children below x are still to be stamped. Assumes nothing.
-use Rattle.std.specs.Prelude.{◌≡◌, ℕ, ◌-◌, ◌≤◌, List, length}
-use mathlib.Core.Path.{sym, ap, ◌∙◌}
-use native.Mathlib.Omega.{arith}
-use borrow.Author.Rules.{rules}
+use Rattle.std.specs.Prelude.{◌≡◌, ◌≤◌, length}
 use Rattle.graph.specs.Sets.{gather}
 use Rattle.graph.specs.Links.{rows_in}
 use Rattle.match_rows.specs.Rows.{children, latest, stamps}
-use Rattle.match_rows.proofs.HalvedLaws.{rises-of}
-use Rattle.match_rows.proofs.ChildLaws.{latest-le, latest-latest, children-latest, stamps-length, walk_turn, walk-child, walk_end}
 use Rattle.match_rows.proofs.cores.stamp_children.Given as goal
 
 abbrev pub invariant-loop-x : goal.invariant-loop-x

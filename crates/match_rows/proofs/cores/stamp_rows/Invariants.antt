@@ -1,14 +1,9 @@
 -- `match_rows::cores::stamp_rows` meets its contract: what is left of the column is still to be stamped. Assumes nothing.
 use Rattle.std.specs.Prelude.{◌≡◌, ◌+◌, ◌-◌, ◌≤◌, length}
-use mathlib.Core.Path.{sym, ◌∙◌}
-use native.Mathlib.Omega.{arith}
-use borrow.Author.Rules.{rules}
-use lib.ListN.{length-set}
 use lib.Seq.{slice}
 use Rattle.graph.specs.Links.{rows_in}
 use Rattle.tables.specs.Verdict.{at}
 use Rattle.match_rows.specs.Rows.{stamps}
-use Rattle.match_rows.proofs.ChildLaws.{stamps-turn, stamps-end}
 use Rattle.match_rows.proofs.cores.stamp_rows.Given as goal
 
 abbrev pub invariant-loop-u : goal.invariant-loop-u

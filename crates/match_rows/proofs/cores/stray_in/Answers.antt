@@ -1,10 +1,7 @@
 -- `match_rows::cores::stray_in` meets its contract: a search, one turn a place. Assumes nothing.
-use Rattle.std.specs.Prelude.{◌≡◌, ℕ, ◌+◌, ◌-◌, ◌≤◌, Bool, ◌||◌, eqb, List}
+use Rattle.std.specs.Prelude.{◌+◌}
 use native.Mathlib.Omega.{arith}
-use borrow.Author.Rules.{rules}
-use Rattle.graph.specs.Links.{linked_in}
-use Rattle.tables.specs.Verdict.{at}
-use Rattle.tables.proofs.SearchLaws.{Searched, searched, passed, failed, ended}
+use Rattle.tables.proofs.SearchLaws.{searched, passed, failed, ended}
 use Rattle.match_rows.proofs.cores.stray_in.Goals as goal
 
 pub bounds-l_starts-k : goal.bounds-l_starts-k

@@ -1,10 +1,8 @@
 -- `match_rows::cores::stray_in` meets its contract: a search, one turn a place. Assumes nothing.
 use Rattle.std.specs.Prelude.{◌≡◌, ℕ, ◌+◌, ◌-◌, ◌≤◌, Bool, ◌||◌, eqb, List}
-use native.Mathlib.Omega.{arith}
-use borrow.Author.Rules.{rules}
 use Rattle.graph.specs.Links.{linked_in}
 use Rattle.tables.specs.Verdict.{at}
-use Rattle.tables.proofs.SearchLaws.{Searched, searched, passed, failed, ended}
+use Rattle.tables.proofs.SearchLaws.{Searched}
 use Rattle.match_rows.proofs.cores.stray_in.Given as goal
 
 -- the row at a place is stamped or linked

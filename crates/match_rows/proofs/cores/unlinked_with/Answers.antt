@@ -1,6 +1,5 @@
 -- `match_rows::cores::unlinked_with` meets its contract. Assumes nothing.
 use mathlib.Core.Path.{sym, ap, ◌∙◌}
-use borrow.Author.Rules.{rules}
 use Rattle.std.specs.Prelude.{length}
 use lib.Seq.{length-take-le, take_at}
 use Rattle.order.specs.Order.{Inverse}

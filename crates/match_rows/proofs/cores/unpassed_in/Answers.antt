@@ -1,10 +1,9 @@
 -- `match_rows::cores::unpassed_in` meets its contract: the walk of the two columns (`Walked`). Assumes nothing.
-use Rattle.std.specs.Prelude.{◌≡◌, ◌+◌, ◌-◌, ◌<◌}
+use Rattle.std.specs.Prelude.{◌+◌, ◌<◌}
 use native.Mathlib.Omega.{arith}
-use borrow.Author.Rules.{rules}
 use Rattle.tables.specs.Verdict.{at}
 use Rattle.tables.proofs.SearchLaws.{ended}
-use Rattle.match_rows.proofs.WalkLaws.{Walked, walked_none, walk_over, walk_next, walk_end, walk_lacks, walk_on}
+use Rattle.match_rows.proofs.WalkLaws.{walked_none, walk_over, walk_next, walk_end, walk_lacks, walk_on}
 use Rattle.match_rows.proofs.cores.unpassed_in.Goals as goal
 use Rattle.match_rows.proofs.cores.unpassed_in.Goals.{then-wide-row+else-last-place-2+else-row-wide, else-wide-row}
 
@@ -64,7 +63,7 @@ overflow_add-place c =
     let s = c.requires in
     let last = c.loop-u.invariant.1 in
     elim c.if-wide-row.branch [
-      then-wide-row+else-last-place-2+else-row-wide w ↦ omega (arith, w.place-is, w.if-last-place-2.false, last, s.1.inside.1)
+      | then-wide-row+else-last-place-2+else-row-wide w ↦ omega (arith, w.place-is, w.if-last-place-2.false, last, s.1.inside.1)
       | else-wide-row w ↦ omega (arith, w.place-is, last, s.1.inside.1)
     ]
 
@@ -74,8 +73,8 @@ loop-u-preserved c =
     let g = c.loop-u.invariant in
     let row = c.wide-row.ensures in
     elim c.if-wide-row.branch [
-      then-wide-row+else-last-place-2+else-row-wide w ↦
-        (g.0, g.1, rw w.place-is (walk_on s.0 s.1 g.2 (omega (arith, g.0)) (rw row at w.place_from-place.ensures) (omega (arith, g.1, w.if-last-place-2.false)) (rw (row, w.wide-then-wide-row.ensures) at w.if-row-wide.false)))
+      | then-wide-row+else-last-place-2+else-row-wide w ↦
+          (g.0, g.1, rw w.place-is (walk_on s.0 s.1 g.2 (omega (arith, g.0)) (rw row at w.place_from-place.ensures) (omega (arith, g.1, w.if-last-place-2.false)) (rw (row, w.wide-then-wide-row.ensures) at w.if-row-wide.false)))
       | else-wide-row w ↦ (g.0, g.1, rw w.place-is (walk_next s.0 s.1 g.2 (omega (arith, g.0)) (omega (arith, g.1)) (rw (row, c.wide.ensures) at w.if-wide-row.false)))
     ]
 

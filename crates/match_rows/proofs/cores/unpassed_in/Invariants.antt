@@ -1,11 +1,7 @@
 -- `match_rows::cores::unpassed_in` meets its contract: the walk of the two columns (`Walked`). Assumes nothing.
-use Rattle.std.specs.Prelude.{◌≡◌, ◌+◌, ◌-◌, ◌<◌}
-use mathlib.Core.Logic.{⊎_elim}
-use native.Mathlib.Omega.{arith}
-use borrow.Author.Rules.{rules}
+use Rattle.std.specs.Prelude.{◌≡◌, ◌+◌, ◌-◌}
 use Rattle.tables.specs.Verdict.{at}
-use Rattle.tables.proofs.SearchLaws.{ended}
-use Rattle.match_rows.proofs.WalkLaws.{Walked, walked_none, walk_over, walk_next, walk_end, walk_lacks, walk_on}
+use Rattle.match_rows.proofs.WalkLaws.{Walked}
 use Rattle.match_rows.proofs.cores.unpassed_in.Given as goal
 
 abbrev pub invariant-loop-u : goal.invariant-loop-u

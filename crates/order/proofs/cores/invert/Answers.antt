@@ -1,8 +1,7 @@
 -- `order::cores::invert` meets its contract. Assumes nothing.
-use Rattle.std.specs.Prelude.{◌≡◌, ℕ, ◌-◌, ◌<◌, ◌≤◌, length, get_or}
+use Rattle.std.specs.Prelude.{ℕ, ◌<◌, length, get_or}
 use mathlib.Core.Path.{sym, subst, ◌∙◌}
 use native.Mathlib.Omega.{arith}
-use borrow.Author.Rules.{rules}
 use lib.ListN.{length-set}
 use Rattle.order.proofs.Laws.{below_at, inverse-turn, inverse-of}
 use Rattle.order.proofs.cores.invert.Goals as goal

@@ -1,10 +1,9 @@
 -- `order::cores::keep` meets its contract. Assumes nothing.
-use Rattle.std.specs.Prelude.{◌-◌, length, get_or}
+use Rattle.std.specs.Prelude.{get_or}
 use mathlib.Core.Path.{sym, ◌∙◌}
 use native.Mathlib.Omega.{arith}
-use borrow.Author.Rules.{rules}
 use Rattle.buckets.proofs.Lists.{elem_at}
-use Rattle.order.proofs.Laws.{group-test, Going, begins, room, takes, passes, ends}
+use Rattle.order.proofs.Laws.{group-test, begins, room, takes, passes, ends}
 use Rattle.order.proofs.cores.keep.Goals as goal
 use Rattle.order.proofs.cores.keep.Goals.{then-is_late-flagged, else-is_late-flagged}
 
@@ -37,7 +36,7 @@ loop-k-preserved c =
     let inside = c.loop-k-test.true in
     let test = sym (group-test flagged late (get_or perm v.k 0)) in
     elim c.if-is_late-flagged.branch [
-      then-is_late-flagged w ↦ rw (w.order-is, w.place-is) (takes flagged late perm c.args.order.now c.args.at v.order v.place v.k v.invariant inside (test ∙ w.if-is_late-flagged.true))
+      | then-is_late-flagged w ↦ rw (w.order-is, w.place-is) (takes flagged late perm c.args.order.now c.args.at v.order v.place v.k v.invariant inside (test ∙ w.if-is_late-flagged.true))
       | else-is_late-flagged w ↦ rw (w.order-is, w.place-is) (passes flagged late perm c.args.order.now c.args.at v.order v.place v.k v.invariant inside (test ∙ w.if-is_late-flagged.false))
     ]
 

@@ -1,11 +1,6 @@
 -- `order::cores::keep` meets its contract. Assumes nothing.
-use Rattle.std.specs.Prelude.{◌-◌, length, get_or}
-use mathlib.Core.Path.{sym, ◌∙◌}
-use native.Mathlib.Omega.{arith}
-use mathlib.Core.Logic.{⊎_elim}
-use borrow.Author.Rules.{rules}
-use Rattle.buckets.proofs.Lists.{elem_at}
-use Rattle.order.proofs.Laws.{group-test, Going, begins, room, takes, passes, ends}
+use Rattle.std.specs.Prelude.{◌-◌, length}
+use Rattle.order.proofs.Laws.{Going}
 use Rattle.order.proofs.cores.keep.Given as goal
 
 abbrev pub invariant-loop-k : goal.invariant-loop-k

@@ -1,10 +1,8 @@
 -- `order::cores::sizes` meets its contract. Assumes nothing.
-use Rattle.std.specs.Prelude.{◌≡◌, ℕ, ◌-◌, ◌<◌, ◌≤◌, ◌++◌, length, get_or, take, drop}
+use Rattle.std.specs.Prelude.{ℕ, ◌<◌, length, get_or}
 use mathlib.Core.Path.{sym, subst, ◌∙◌}
 use native.Mathlib.Omega.{arith}
-use borrow.Author.Rules.{rules}
 use lib.ListN.{length-set}
-use Rattle.order.specs.Order.{sizes_of}
 use Rattle.order.proofs.Laws.{sizes-next, sizes-turn, sizes-end}
 use Rattle.order.proofs.cores.sizes.Goals as goal
 

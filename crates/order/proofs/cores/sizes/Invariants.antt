@@ -1,11 +1,6 @@
 -- `order::cores::sizes` meets its contract. Assumes nothing.
-use Rattle.std.specs.Prelude.{◌≡◌, ℕ, ◌-◌, ◌<◌, ◌≤◌, ◌++◌, length, get_or, take, drop}
-use mathlib.Core.Path.{sym, subst, ◌∙◌}
-use native.Mathlib.Omega.{arith}
-use borrow.Author.Rules.{rules}
-use lib.ListN.{length-set}
+use Rattle.std.specs.Prelude.{◌≡◌, ◌-◌, ◌≤◌, ◌++◌, length, take, drop}
 use Rattle.order.specs.Order.{sizes_of}
-use Rattle.order.proofs.Laws.{sizes-next, sizes-turn, sizes-end}
 use Rattle.order.proofs.cores.sizes.Given as goal
 
 abbrev pub invariant-loop-k : goal.invariant-loop-k

@@ -1,6 +1,6 @@
 -- `reach::cores::advance` meets its contract, by the three ways: the sum is 0; a stamp holds it; neither.
 -- Assumes nothing.
-use Rattle.std.proofs.Common.{◌≡◌, ℕ, Bool, cond, length, replicate, sym, ap, ◌∙◌, rules}
+use Rattle.std.proofs.Common.{ℕ, Bool, cond, length, replicate, sym, ap, ◌∙◌, rules}
 use Rattle.reach.specs.Reach.{next_of, any_is}
 use Rattle.reach.proofs.Laws.{stale-zero, stale-held}
 use Rattle.reach.proofs.cores.advance.Goals as goal

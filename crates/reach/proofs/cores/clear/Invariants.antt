@@ -1,7 +1,6 @@
 -- `reach::cores::clear` meets its contract. The invariant: the stamps below i are 0, and the others as they were.
 -- Assumes nothing.
-use Rattle.std.proofs.Common.{◌≡◌, ℕ, ◌-◌, ◌≤◌, List, ◌++◌, length, drop, set, replicate, refl, ap, ◌∙◌, append-nil, arith, length-set, drop_of_length-le}
-use borrow.Author.Fill.{fill_none, fill_more}
+use Rattle.std.proofs.Common.{◌≡◌, ◌-◌, ◌≤◌, ◌++◌, length, drop, replicate}
 use Rattle.reach.proofs.cores.clear.Given as goal
 
 abbrev pub invariant-loop-i : goal.invariant-loop-i

@@ -1,7 +1,6 @@
 -- `reach::cores::holds` meets its contract. The invariant: whether the mark is held at all is whether it is held from i on.
 -- Assumes nothing.
-use Rattle.std.proofs.Common.{◌≡◌, ◌-◌, ◌≤◌, length, drop, sym, refl, ◌∙◌, arith}
-use Rattle.reach.specs.Reach.{any_is}
+use Rattle.std.proofs.Common.{sym, refl, ◌∙◌, arith}
 use Rattle.reach.proofs.Laws.{any_here, any_next, any-end}
 use Rattle.reach.proofs.cores.holds.Goals as goal
 

@@ -1,8 +1,7 @@
 -- `reach::cores::holds` meets its contract. The invariant: whether the mark is held at all is whether it is held from i on.
 -- Assumes nothing.
-use Rattle.std.proofs.Common.{◌≡◌, ◌-◌, ◌≤◌, length, drop, sym, refl, ◌∙◌, arith}
+use Rattle.std.proofs.Common.{◌≡◌, ◌-◌, ◌≤◌, length, drop}
 use Rattle.reach.specs.Reach.{any_is}
-use Rattle.reach.proofs.Laws.{any_here, any_next, any-end}
 use Rattle.reach.proofs.cores.holds.Given as goal
 
 abbrev pub invariant-loop-i : goal.invariant-loop-i

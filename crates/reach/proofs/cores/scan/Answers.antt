@@ -1,8 +1,7 @@
 -- `reach::cores::scan` meets its contract. The invariants are the records of `Turns`, and each answer names the law for its way through the code.
 -- Assumes nothing.
-use Rattle.std.proofs.Common.{◌≡◌, ℕ, ◌+◌, ◌-◌, ◌<◌, ◌≤◌, List, ◌++◌, length, get_or, take, drop, set, sym, refl, ap, ◌∙◌, ⊎_elim, arith, length-drop, length-set, take-append-drop}
-use Rattle.reach.specs.Reach.{State, reached}
-use Rattle.reach.proofs.Turns.{Climbing, Climbed, Scanning, place, climb-begins, climb-turns, climb-stops, climb-roots, scan_begins, scan-climbs, scan-skips, scan-ends}
+use Rattle.std.proofs.Common.{ℕ, ◌-◌, ◌<◌, List, ◌++◌, length, get_or, drop, set, sym, refl, ap, ◌∙◌, arith, length-drop, take-append-drop}
+use Rattle.reach.proofs.Turns.{place, climb-begins, climb-turns, climb-stops, climb-roots, scan_begins, scan-climbs, scan-skips, scan-ends}
 use Rattle.reach.proofs.cores.scan.Goals as goal
 use Rattle.reach.proofs.cores.scan.Goals.{then-i-j+then-stamp-at, then-i-j+else-stamp-at+then-up, else-i-j}
 
@@ -77,16 +76,16 @@ loop-q-preserved c =
     let row = get_or c.args.rows.now c.loop-q.q 0 in
     elim c.if-i-j.branch [
       -- left at a mark
-      then-i-j+then-stamp-at w ↦ rw (w.stamp-is, w.out-is, w.top-is)
-        (scan-climbs c.args.parent.now c.args.rows.now c.args.j c.args.mark c.args.stamp.now c.args.out.now c.loop-q.stamp c.loop-q.out c.loop-q.top c.loop-q.q s c.loop-q-test.true w.climb.stamp w.climb.out w.climb.top w.if-i-j.true
-        (climb-stops c.args.parent.now c.args.mark c.loop-q.stamp c.loop-q.out c.loop-q.top row w.climb.stamp w.climb.out w.climb.top w.climb.i w.climb.invariant w.if-stamp-at.true))
+      | then-i-j+then-stamp-at w ↦ rw (w.stamp-is, w.out-is, w.top-is)
+          (scan-climbs c.args.parent.now c.args.rows.now c.args.j c.args.mark c.args.stamp.now c.args.out.now c.loop-q.stamp c.loop-q.out c.loop-q.top c.loop-q.q s c.loop-q-test.true w.climb.stamp w.climb.out w.climb.top w.if-i-j.true
+          (climb-stops c.args.parent.now c.args.mark c.loop-q.stamp c.loop-q.out c.loop-q.top row w.climb.stamp w.climb.out w.climb.top w.climb.i w.climb.invariant w.if-stamp-at.true))
       -- left past a root
       | then-i-j+else-stamp-at+then-up w ↦ rw (w.stamp-is, w.out-is, w.top-is)
-        (scan-climbs c.args.parent.now c.args.rows.now c.args.j c.args.mark c.args.stamp.now c.args.out.now c.loop-q.stamp c.loop-q.out c.loop-q.top c.loop-q.q s c.loop-q-test.true (set w.climb.stamp w.climb.i c.args.mark) (set w.climb.out (w.climb.top - 1) w.climb.i) (w.climb.top - 1) w.if-i-j.true
-        (climb-roots c.args.parent.now c.args.mark c.loop-q.stamp c.loop-q.out c.loop-q.top row w.climb.stamp w.climb.out w.climb.top w.climb.i w.climb.invariant w.if-stamp-at.false w.if-up.true))
+          (scan-climbs c.args.parent.now c.args.rows.now c.args.j c.args.mark c.args.stamp.now c.args.out.now c.loop-q.stamp c.loop-q.out c.loop-q.top c.loop-q.q s c.loop-q-test.true (set w.climb.stamp w.climb.i c.args.mark) (set w.climb.out (w.climb.top - 1) w.climb.i) (w.climb.top - 1) w.if-i-j.true
+          (climb-roots c.args.parent.now c.args.mark c.loop-q.stamp c.loop-q.out c.loop-q.top row w.climb.stamp w.climb.out w.climb.top w.climb.i w.climb.invariant w.if-stamp-at.false w.if-up.true))
       -- a row that is not below j
       | else-i-j w ↦ rw (w.stamp-is, w.out-is, w.top-is)
-        (scan-skips c.args.parent.now c.args.rows.now c.args.j c.args.mark c.args.stamp.now c.args.out.now c.loop-q.stamp c.loop-q.out c.loop-q.top c.loop-q.q s c.loop-q-test.true w.if-i-j.false)
+          (scan-skips c.args.parent.now c.args.rows.now c.args.j c.args.mark c.args.stamp.now c.args.out.now c.loop-q.stamp c.loop-q.out c.loop-q.top c.loop-q.q s c.loop-q-test.true w.if-i-j.false)
     ]
 
 pub shape_of-stamp : goal.shape_of-stamp

@@ -1,8 +1,7 @@
 -- `reach::cores::scan` meets its contract. The invariants are the records of `Turns`, and each answer names the law for its way through the code.
 -- Assumes nothing.
-use Rattle.std.proofs.Common.{◌≡◌, ℕ, ◌+◌, ◌-◌, ◌<◌, ◌≤◌, List, ◌++◌, length, get_or, take, drop, set, sym, refl, ap, ◌∙◌, ⊎_elim, arith, length-drop, length-set, take-append-drop}
-use Rattle.reach.specs.Reach.{State, reached}
-use Rattle.reach.proofs.Turns.{Climbing, Climbed, Scanning, place, climb-begins, climb-turns, climb-stops, climb-roots, scan_begins, scan-climbs, scan-skips, scan-ends}
+use Rattle.std.proofs.Common.{◌-◌, length}
+use Rattle.reach.proofs.Turns.{Climbing, Scanning}
 use Rattle.reach.proofs.cores.scan.Given as goal
 
 abbrev pub invariant-climb : goal.invariant-climb

@@ -8,7 +8,7 @@ use borrow.Author.Rules.{rules}
 use Rattle.tables.specs.Verdict.{at}
 use Rattle.column_products.specs.Columns.{Plan, plan, ColumnProducts}
 use Rattle.reach_products.specs.Reach.{advanced, reach_triples}
-use Rattle.reach_products.proofs.ReachLaws.{advanced-length, next-there, next_more, places-now, factors-now, rows-many, count-more, count_room, ReachUpTo, reach-none, reach-more, reach-all}
+use Rattle.reach_products.proofs.ReachLaws.{advanced-length, next-there, next_more, places-now, factors-now, rows-many, count-more, count_room, reach-none, reach-more, reach-all}
 use Rattle.reach_products.proofs.cores.apply_reach.Goals as goal
 
 abbrev tables : goal.After-slice_known-4-1 → Plan

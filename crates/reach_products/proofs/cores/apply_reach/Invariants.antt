@@ -1,14 +1,9 @@
 -- `reach_products::cores::apply_reach` meets its contract: the invariant: the first t columns are done (`ReachUpTo`), and their next places have gone
 -- one further. Assumes nothing.
-use Rattle.std.specs.Prelude.{◌≡◌, ℕ, ◌+◌, ◌-◌, ◌^◌, ◌<◌, ◌≤◌, List, length, take, set}
-use mathlib.Core.Path.{refl, ap, subst, ◌∙◌}
-use native.Mathlib.Omega.{arith}
-use lib.Seq.{take_all}
-use borrow.Author.Rules.{rules}
-use Rattle.tables.specs.Verdict.{at}
-use Rattle.column_products.specs.Columns.{Plan, plan, ColumnProducts}
+use Rattle.std.specs.Prelude.{◌≡◌, ◌+◌, ◌-◌, ◌≤◌, length, take}
+use Rattle.column_products.specs.Columns.{plan}
 use Rattle.reach_products.specs.Reach.{advanced, reach_triples}
-use Rattle.reach_products.proofs.ReachLaws.{advanced-length, next-there, next_more, places-now, factors-now, rows-many, count-more, count_room, ReachUpTo, reach-none, reach-more, reach-all}
+use Rattle.reach_products.proofs.ReachLaws.{ReachUpTo}
 use Rattle.reach_products.proofs.cores.apply_reach.Given as goal
 
 abbrev pub invariant-loop-t : goal.invariant-loop-t

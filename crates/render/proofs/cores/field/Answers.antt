@@ -1,7 +1,6 @@
 -- `render::cores::field` meets its contract: the number behind the label. Assumes nothing.
 use Rattle.digits.specs.Digits.{decimal}
 use Rattle.render.proofs.Laws.{fits-front, fits_next, puts-room, puts-next}
-use borrow.Author.Rules.{rules}
 use Rattle.render.proofs.cores.field.Goals as goal
 
 pub put_text-next-requires : goal.put_text-next-requires

@@ -1,7 +1,6 @@
 -- `render::cores::first_length` meets its contract: the digits of five numbers, and all else is fixed. Assumes nothing.
 use native.Mathlib.Omega.{arith}
 use Rattle.render.proofs.Laws.{length-first}
-use borrow.Author.Rules.{rules}
 use Rattle.render.proofs.cores.first_length.Goals as goal
 
 pub returns : goal.returns

@@ -3,7 +3,6 @@ use Rattle.std.specs.Prelude.{ℕ, ◌+◌, ◌≤◌, List, ◌++◌, length}
 use Rattle.digits.specs.Digits.{Puts}
 use Rattle.render.specs.Lines.{field, blocks_label, scalars_label, stored_label, products_label, silent_label, line_feed}
 use Rattle.render.proofs.Laws.{fits-front, fits_next, puts-room, puts-next}
-use borrow.Author.Rules.{rules}
 use Rattle.render.proofs.cores.first_line.Goals as goal
 
 -- the line's pieces so far

@@ -1,7 +1,6 @@
 -- `render::cores::line_length` meets its contract: the number's digits, and all else is fixed. Assumes nothing.
 use native.Mathlib.Omega.{arith}
 use Rattle.render.proofs.Laws.{length-silent, length-heard}
-use borrow.Author.Rules.{rules}
 use Rattle.render.proofs.cores.line_length.Goals as goal
 
 pub returns-then-mark-eq0 : goal.returns-then-mark-eq0

@@ -1,5 +1,5 @@
 -- `render::cores::lines_length` meets its contract: a sum, one turn a line. Assumes nothing.
-use Rattle.std.specs.Prelude.{◌≡◌, ℕ, ◌-◌, ◌*◌, ◌≤◌, length, get_or}
+use Rattle.std.specs.Prelude.{◌≡◌, ℕ, length, get_or}
 use Prim.Native.Nat.{zero-le}
 use mathlib.Core.Path.{sym, ap, ◌∙◌}
 use native.Mathlib.Omega.{arith}
@@ -7,7 +7,6 @@ use lib.Ieee.{nan}
 use lib.ListN.{length-append}
 use Rattle.render.specs.Lines.{lines, scalar_line}
 use Rattle.render.proofs.Laws.{lines_none, lines_next}
-use borrow.Author.Rules.{rules}
 use Rattle.render.proofs.cores.lines_length.Goals as goal
 
 pub loop-k-init : goal.loop-k-init

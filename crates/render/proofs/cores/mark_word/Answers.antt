@@ -4,7 +4,6 @@ use mathlib.Core.Path.{sym, subst}
 use borrow.Author.Tests.{eq-eqb, ne_eqb}
 use Rattle.digits.specs.Digits.{Puts}
 use Rattle.render.specs.Lines.{mark_word, silent_word, heard_word}
-use borrow.Author.Rules.{rules}
 use Rattle.render.proofs.cores.mark_word.Goals as goal
 
 silent : (c : goal.After-put_text-arg-then-mark-eq0-2-1) → mark_word c.args.mark ≡ silent_word

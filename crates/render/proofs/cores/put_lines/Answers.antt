@@ -1,5 +1,5 @@
 -- `render::cores::put_lines` meets its contract: the lines passed are written. Assumes nothing.
-use Rattle.std.specs.Prelude.{◌≡◌, ℕ, ◌+◌, ◌-◌, ◌≤◌, List, ◌++◌, length, get_or}
+use Rattle.std.specs.Prelude.{◌≡◌, ℕ, ◌+◌, ◌≤◌, List, ◌++◌, length, get_or}
 use Prim.Native.Nat.{zero-le}
 use mathlib.Core.Path.{refl, sym, ap, subst}
 use native.Mathlib.Omega.{arith}
@@ -7,7 +7,6 @@ use lib.Ieee.{nan}
 use Rattle.digits.specs.Digits.{Puts}
 use Rattle.render.specs.Lines.{lines, scalar_line}
 use Rattle.render.proofs.Laws.{fits_next, puts-room, puts-next, puts_none, lines_next, lines-le}
-use borrow.Author.Rules.{rules}
 use Rattle.render.proofs.cores.put_lines.Goals as goal
 
 pub loop-k-init : goal.loop-k-init

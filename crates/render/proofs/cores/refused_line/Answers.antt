@@ -1,7 +1,6 @@
 -- `render::cores::refused_line` meets its contract: the number behind the label, and the line's end. Assumes nothing.
 use Rattle.render.specs.Lines.{field, refused_label, line_feed}
 use Rattle.render.proofs.Laws.{fits-front, fits_next, puts-room, puts-next}
-use borrow.Author.Rules.{rules}
 use Rattle.render.proofs.cores.refused_line.Goals as goal
 
 pub field-next-requires : goal.field-next-requires

@@ -6,7 +6,6 @@ use Rattle.digits.specs.Digits.{decimal, hex16, bits_of, Puts}
 use Rattle.digits.proofs.Laws.{length_digits}
 use Rattle.render.specs.Lines.{mark_word, line_feed, scalar_line}
 use Rattle.render.proofs.Laws.{fits-front, fits_next, puts-room, puts-next}
-use borrow.Author.Rules.{rules}
 use Rattle.render.proofs.cores.scalar_line.Goals as goal
 
 -- the line's pieces so far

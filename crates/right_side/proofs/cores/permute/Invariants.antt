@@ -1,13 +1,7 @@
 -- `right_side::cores::permute` meets its contract: the invariant: the first numbers are written. Assumes nothing.
-use Rattle.std.specs.Prelude.{◌≡◌, ◌-◌, ◌<◌, ◌≤◌, length}
-use mathlib.Core.Path.{refl, sym, subst, ◌∙◌}
-use native.Mathlib.Omega.{arith}
-use borrow.Author.Rules.{rules}
-use Rattle.order.proofs.Laws.{below_at}
-use Rattle.tables.specs.Verdict.{at}
-use Rattle.scalars.proofs.Filling.{Filled, filled_none, filled_all}
+use Rattle.std.specs.Prelude.{◌≡◌, ◌-◌, ◌≤◌, length}
+use Rattle.scalars.proofs.Filling.{Filled}
 use Rattle.solution.specs.Solution.{permuted}
-use Rattle.solution.proofs.EdgeLaws.{permuted-length, permuted-turn}
 use Rattle.right_side.proofs.cores.permute.Given as goal
 
 abbrev pub invariant-loop-new : goal.invariant-loop-new

@@ -1,5 +1,5 @@
 -- `right_side::cores::unpermute` meets its contract: the invariant: the old scalars of the first new ones are written. Assumes nothing.
-use Rattle.std.specs.Prelude.{◌≡◌, ℕ, ◌-◌, ◌<◌, ◌≤◌, length, get_or}
+use Rattle.std.specs.Prelude.{◌<◌, length, get_or}
 use mathlib.Core.Path.{sym, subst, ◌∙◌}
 use native.Mathlib.Omega.{arith}
 use lib.Ieee.{nan}

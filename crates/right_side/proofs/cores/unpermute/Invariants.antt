@@ -1,13 +1,7 @@
 -- `right_side::cores::unpermute` meets its contract: the invariant: the old scalars of the first new ones are written. Assumes nothing.
 use Rattle.std.specs.Prelude.{◌≡◌, ℕ, ◌-◌, ◌<◌, ◌≤◌, length, get_or}
-use mathlib.Core.Path.{sym, subst, ◌∙◌}
-use native.Mathlib.Omega.{arith}
 use lib.Ieee.{nan}
-use lib.ListN.{length-set}
-use borrow.Author.Rules.{rules}
-use Rattle.order.proofs.Laws.{below_at}
 use Rattle.tables.specs.Verdict.{at}
-use Rattle.solution.proofs.EdgeLaws.{scattered-turn, unpermuted-all}
 use Rattle.right_side.proofs.cores.unpermute.Given as goal
 
 abbrev pub invariant-loop-new : goal.invariant-loop-new

@@ -1,10 +1,10 @@
 -- `row_products::cores::apply_rows` meets its contract. Assumes nothing.
-use Rattle.std.specs.Prelude.{◌≡◌, ◌+◌, ◌-◌, ◌*◌, ◌<◌, ◌≤◌, length}
+use Rattle.std.specs.Prelude.{◌+◌, ◌*◌, ◌<◌, ◌≤◌, length}
 use mathlib.Core.Path.{refl, ◌∙◌}
 use native.Mathlib.Omega.{arith}
 use borrow.Author.Rules.{rules}
 use Rattle.tables.specs.Verdict.{at}
-use Rattle.row_products.proofs.RowLaws.{UpTo, up_none, up_more, up_all}
+use Rattle.row_products.proofs.RowLaws.{up_none, up_more, up_all}
 use Rattle.row_products.proofs.cores.apply_rows.Goals as goal
 
 pub loop-t-init : goal.loop-t-init

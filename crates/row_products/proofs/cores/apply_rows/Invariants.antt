@@ -1,10 +1,7 @@
 -- `row_products::cores::apply_rows` meets its contract. Assumes nothing.
-use Rattle.std.specs.Prelude.{◌≡◌, ◌+◌, ◌-◌, ◌*◌, ◌<◌, ◌≤◌, length}
-use mathlib.Core.Path.{refl, ◌∙◌}
-use native.Mathlib.Omega.{arith}
-use borrow.Author.Rules.{rules}
+use Rattle.std.specs.Prelude.{◌≡◌, ◌+◌, ◌-◌, ◌≤◌, length}
 use Rattle.tables.specs.Verdict.{at}
-use Rattle.row_products.proofs.RowLaws.{UpTo, up_none, up_more, up_all}
+use Rattle.row_products.proofs.RowLaws.{UpTo}
 use Rattle.row_products.proofs.cores.apply_rows.Given as goal
 
 abbrev pub invariant-loop-t : goal.invariant-loop-t

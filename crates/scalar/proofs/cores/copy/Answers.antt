@@ -1,5 +1,5 @@
 -- `scalar::cores::copy` meets its contract: the first t numbers are copied. Assumes nothing.
-use Rattle.std.specs.Prelude.{◌≡◌, ◌-◌, ◌≤◌, List, [], ◌∷◌, ◌++◌, length, get_or, take}
+use Rattle.std.specs.Prelude.{List, [], ◌∷◌, ◌++◌, get_or}
 use mathlib.Core.Path.{◌∙◌, ap, sym}
 use native.Mathlib.Numerals.{add-one}
 use native.Mathlib.Omega.{arith}
@@ -7,7 +7,6 @@ use lib.ListN.{length-set}
 use lib.Seq.{take_all, take-suc, take-suc-set}
 use lib.Ieee.{Float, nan}
 use borrow.Author.Rules.{rules}
-use Rattle.scalar.proofs.Laws.{kernels}
 use Rattle.scalar.proofs.cores.copy.Goals as goal
 
 pub loop-t-preserved : goal.loop-t-preserved

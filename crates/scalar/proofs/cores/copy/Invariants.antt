@@ -1,13 +1,5 @@
 -- `scalar::cores::copy` meets its contract: the first t numbers are copied. Assumes nothing.
-use Rattle.std.specs.Prelude.{◌≡◌, ◌-◌, ◌≤◌, List, [], ◌∷◌, ◌++◌, length, get_or, take}
-use mathlib.Core.Path.{◌∙◌, ap, sym}
-use native.Mathlib.Numerals.{add-one}
-use native.Mathlib.Omega.{arith}
-use lib.ListN.{length-set}
-use lib.Seq.{take_all, take-suc, take-suc-set}
-use lib.Ieee.{Float, nan}
-use borrow.Author.Rules.{rules}
-use Rattle.scalar.proofs.Laws.{kernels}
+use Rattle.std.specs.Prelude.{◌≡◌, ◌-◌, ◌≤◌, length, take}
 use Rattle.scalar.proofs.cores.copy.Given as goal
 
 abbrev pub invariant-loop-t : goal.invariant-loop-t

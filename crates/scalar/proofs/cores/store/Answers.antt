@@ -1,7 +1,6 @@
 -- `scalar::cores::store` meets its contract: the column lies in the block, so the place does, and its arithmetic does not wrap. Assumes nothing.
 use Rattle.std.specs.Prelude.{◌+◌, ◌*◌, ◌≤◌}
 use native.Mathlib.Omega.{arith}
-use borrow.Author.Rules.{rules}
 use Rattle.scalar.proofs.Laws.{column}
 use Rattle.scalar.proofs.cores.store.Goals as goal
 

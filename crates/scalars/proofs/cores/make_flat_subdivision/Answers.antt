@@ -1,7 +1,6 @@
 -- `scalars::cores::make_flat_subdivision` meets its contract. Assumes nothing.
 use mathlib.Core.Path.{◌∙◌}
 use native.Mathlib.Omega.{arith}
-use borrow.Author.Rules.{rules}
 use Rattle.scalars.proofs.ScalarLaws.{starts-are}
 use Rattle.scalars.proofs.cores.make_flat_subdivision.Goals as goal
 

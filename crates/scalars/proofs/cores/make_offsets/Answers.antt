@@ -1,12 +1,12 @@
 -- `scalars::cores::make_offsets` meets its contract. Assumes nothing.
-use Rattle.std.specs.Prelude.{◌≡◌, ◌+◌, ◌-◌, ◌<◌, ◌≤◌, length, set}
+use Rattle.std.specs.Prelude.{◌≡◌, ◌+◌, ◌<◌, length, set}
 use mathlib.Core.Path.{sym, ap, ◌∙◌}
 use native.Mathlib.Omega.{arith}
 use borrow.Author.Rules.{rules}
 use lib.ListN.{length-set}
 use Rattle.tables.specs.Verdict.{at}
 use Rattle.scalars.specs.Bodies.{offset_at, offsets}
-use Rattle.scalars.proofs.Filling.{Filled, filled_none, filled_more, filled_all}
+use Rattle.scalars.proofs.Filling.{filled_none, filled_more, filled_all}
 use Rattle.scalars.proofs.BodyLaws.{offset-first, length-offsets, offsets-at, place-below, offset-turn, offset-sum, offset-small}
 use Rattle.scalars.proofs.cores.make_offsets.Goals as goal
 
@@ -80,8 +80,7 @@ overflow_add-p c =
 
 pub loop-p-preserved : goal.loop-p-preserved
 loop-p-preserved c =
-    let t = c.loop-p in
-    (
+    let t = c.loop-p in (
       omega (arith, t.invariant.0),
       search rules,
       offset-turn c.requires.0 c.requires.1 c.loop-j.j t.p c.loop-j-test.true t.invariant.0 c.loop-p-test.true t.sum t.invariant.2 t.invariant.3,

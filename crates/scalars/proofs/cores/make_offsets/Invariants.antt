@@ -1,13 +1,8 @@
 -- `scalars::cores::make_offsets` meets its contract. Assumes nothing.
-use Rattle.std.specs.Prelude.{◌≡◌, ◌+◌, ◌-◌, ◌<◌, ◌≤◌, length, set}
-use mathlib.Core.Path.{sym, ap, ◌∙◌}
-use native.Mathlib.Omega.{arith}
-use borrow.Author.Rules.{rules}
-use lib.ListN.{length-set}
+use Rattle.std.specs.Prelude.{◌≡◌, ◌-◌, ◌≤◌, length}
 use Rattle.tables.specs.Verdict.{at}
 use Rattle.scalars.specs.Bodies.{offset_at, offsets}
-use Rattle.scalars.proofs.Filling.{Filled, filled_none, filled_more, filled_all}
-use Rattle.scalars.proofs.BodyLaws.{offset-first, length-offsets, offsets-at, place-below, offset-turn, offset-sum, offset-small}
+use Rattle.scalars.proofs.Filling.{Filled}
 use Rattle.scalars.proofs.cores.make_offsets.Given as goal
 
 abbrev pub invariant-loop-p : goal.invariant-loop-p

@@ -1,12 +1,12 @@
 -- `scalars::cores::make_scalar_perm` meets its contract. Assumes nothing.
-use Rattle.std.specs.Prelude.{◌≡◌, ℕ, ◌+◌, ◌-◌, ◌<◌, ◌≤◌, length, get_or}
+use Rattle.std.specs.Prelude.{◌≡◌, ℕ, ◌<◌, length, get_or}
 use mathlib.Core.Path.{sym, ap, subst, ◌∙◌}
 use native.Mathlib.Omega.{arith}
 use borrow.Author.Rules.{rules}
 use Rattle.buckets.specs.Buckets.{before}
 use Rattle.order.specs.Order.{sizes_of}
 use Rattle.scalars.specs.Scalars.{scalar_perm}
-use Rattle.scalars.proofs.Filling.{Filled, filled_none, filled_all}
+use Rattle.scalars.proofs.Filling.{filled_none, filled_all}
 use Rattle.scalars.proofs.ScalarLaws.{nothing-before, perm-size, scalar-permutes, old_below, old-starts-long, start_small, place_inside, scalar-turn, block-turn}
 use Rattle.scalars.proofs.cores.make_scalar_perm.Goals as goal
 
@@ -67,8 +67,7 @@ overflow_add-s c =
 pub loop-s-preserved : goal.loop-s-preserved
 loop-s-preserved c =
     let w = c.loop-s in
-    let v = c.loop-k in
-    (
+    let v = c.loop-k in (
       search rules,
       scalar-turn c.args.dims.now c.args.order.now c.args.old_starts.now c.requires.permutes.0 c.requires.old_starts_value.0 v.k c.loop-k-test.true w.out w.place w.s w.invariant.1 w.invariant.2 c.loop-s-test.true,
       omega (arith, w.invariant.2),
@@ -77,8 +76,7 @@ loop-s-preserved c =
 pub loop-k-preserved : goal.loop-k-preserved
 loop-k-preserved c =
     let w = c.loop-s in
-    let v = c.loop-k in
-    (
+    let v = c.loop-k in (
       search rules,
       w.invariant.1,
       block-turn c.args.dims.now c.args.order.now c.args.old_starts.now c.requires.permutes.0 c.requires.old_starts_value.0 v.k c.loop-k-test.true w.out w.place w.s w.invariant.1 w.invariant.2 (omega arith),

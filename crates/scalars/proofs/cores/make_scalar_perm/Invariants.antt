@@ -1,13 +1,9 @@
 -- `scalars::cores::make_scalar_perm` meets its contract. Assumes nothing.
-use Rattle.std.specs.Prelude.{◌≡◌, ℕ, ◌+◌, ◌-◌, ◌<◌, ◌≤◌, length, get_or}
-use mathlib.Core.Path.{sym, ap, subst, ◌∙◌}
-use native.Mathlib.Omega.{arith}
-use borrow.Author.Rules.{rules}
+use Rattle.std.specs.Prelude.{◌≡◌, ◌+◌, ◌-◌, ◌≤◌, length}
 use Rattle.buckets.specs.Buckets.{before}
 use Rattle.order.specs.Order.{sizes_of}
 use Rattle.scalars.specs.Scalars.{scalar_perm}
-use Rattle.scalars.proofs.Filling.{Filled, filled_none, filled_all}
-use Rattle.scalars.proofs.ScalarLaws.{nothing-before, perm-size, scalar-permutes, old_below, old-starts-long, start_small, place_inside, scalar-turn, block-turn}
+use Rattle.scalars.proofs.Filling.{Filled}
 use Rattle.scalars.proofs.cores.make_scalar_perm.Given as goal
 
 abbrev pub invariant-loop-s : goal.invariant-loop-s

@@ -1,5 +1,4 @@
 -- `scalars::cores::permute_body` meets its contract. Assumes nothing.
-use borrow.Author.Rules.{rules}
 use Rattle.scalars.proofs.cores.permute_body.Goals as goal
 
 pub returns-then-above : goal.returns-then-above

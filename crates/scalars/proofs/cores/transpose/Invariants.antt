@@ -1,13 +1,7 @@
 -- `scalars::cores::transpose` meets its contract. Assumes nothing.
-use Rattle.std.specs.Prelude.{◌≡◌, ℕ, ◌+◌, ◌-◌, ◌*◌, ◌<◌, ◌≤◌}
-use mathlib.Core.Path.{sym, ap, subst, ◌∙◌}
-use native.Mathlib.Nat.{suc-mul}
-use native.Mathlib.Omega.{arith}
-use native.Mathlib.Numerals.{add-one}
-use borrow.Author.Rules.{rules}
+use Rattle.std.specs.Prelude.{◌≡◌, ◌+◌, ◌-◌, ◌*◌, ◌≤◌}
 use Rattle.scalars.specs.Bodies.{transposed}
-use Rattle.scalars.proofs.Filling.{Filled, filled_none, filled_all}
-use Rattle.scalars.proofs.BodyLaws.{transposed-length, turned-inside, turned_turn}
+use Rattle.scalars.proofs.Filling.{Filled}
 use Rattle.scalars.proofs.cores.transpose.Given as goal
 
 abbrev pub invariant-loop-c : goal.invariant-loop-c

@@ -1,5 +1,4 @@
 -- `scratch::cores::clear_plan` meets its contract: eight fills. Assumes nothing.
-use borrow.Author.Rules.{rules}
 use Rattle.scratch.proofs.cores.clear_plan.Goals as goal
 
 pub returns : goal.returns

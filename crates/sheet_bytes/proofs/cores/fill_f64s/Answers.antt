@@ -5,7 +5,6 @@ use native.Mathlib.Omega.{arith}
 use lib.Ieee.{Float}
 use lib.Seq.{length-take-le}
 use Rattle.sheet_bytes.specs.Layout.{f64s}
-use borrow.Author.Rules.{rules}
 use Rattle.sheet_bytes.proofs.cores.fill_f64s.Goals as goal
 
 -- how many places are lent on

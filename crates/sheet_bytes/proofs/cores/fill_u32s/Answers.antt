@@ -4,7 +4,6 @@ use mathlib.Core.Path.{sym, ap, ◌∙◌}
 use native.Mathlib.Omega.{arith}
 use lib.Seq.{length-take-le}
 use Rattle.sheet_bytes.specs.Layout.{u32s}
-use borrow.Author.Rules.{rules}
 use Rattle.sheet_bytes.proofs.cores.fill_u32s.Goals as goal
 
 -- how many places are lent on

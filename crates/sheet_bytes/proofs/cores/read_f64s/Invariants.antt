@@ -1,11 +1,7 @@
 -- `sheet_bytes::cores::read_f64s` meets its contract: the entries passed are the table's. Assumes nothing.
 use Rattle.std.specs.Prelude.{◌≡◌, ℕ, ◌+◌, ◌-◌, ◌*◌, ◌<◌, ◌≤◌, length, get_or}
-use native.Mathlib.Omega.{arith}
-use lib.ListN.{length-set}
 use lib.Ieee.{nan}
-use borrow.Author.Rules.{rules}
 use Rattle.sheet_bytes.specs.Layout.{f64_at}
-use Rattle.sheet_bytes.proofs.Laws.{one_more, f64s-filled}
 use Rattle.sheet_bytes.proofs.cores.read_f64s.Given as goal
 
 abbrev pub invariant-loop-k : goal.invariant-loop-k

@@ -1,10 +1,6 @@
 -- `sheet_bytes::cores::read_u32s` meets its contract: the entries passed are the table's. Assumes nothing.
 use Rattle.std.specs.Prelude.{◌≡◌, ℕ, ◌+◌, ◌-◌, ◌*◌, ◌<◌, ◌≤◌, length, get_or}
-use native.Mathlib.Omega.{arith}
-use lib.ListN.{length-set}
-use borrow.Author.Rules.{rules}
 use Rattle.sheet_bytes.specs.Layout.{u32_at}
-use Rattle.sheet_bytes.proofs.Laws.{one_more, u32s-filled}
 use Rattle.sheet_bytes.proofs.cores.read_u32s.Given as goal
 
 abbrev pub invariant-loop-k : goal.invariant-loop-k

@@ -1,6 +1,5 @@
 -- `sheet_bytes::cores::u32_at` meets its contract: four bytes, each below 256. Assumes nothing.
 use Rattle.sheet_bytes.specs.Layout.{u32_at}
-use borrow.Author.Rules.{rules}
 use Rattle.sheet_bytes.proofs.cores.u32_at.Goals as goal
 
 pub returns : goal.returns

@@ -1,7 +1,6 @@
 -- `sheet_check::cores::by_number` meets its contract: each test that passes leaves what is told to the checks after it. Assumes nothing.
 use Rattle.std.specs.Prelude.{◌≡◌, ℕ, List, length, drop}
 use mathlib.Core.Path.{refl, sym, ap, ◌∙◌}
-use borrow.Author.Tests.{not-true, not-false}
 use Rattle.refusal.specs.Refusal.{Told, verdict, first_of}
 use Rattle.tables.specs.Search.{first}
 use Rattle.tables.specs.Verdict.{from_diagonal, row_fits, order_fits}
@@ -10,7 +9,6 @@ use Rattle.tables.proofs.TableLaws.{columns_of}
 use Rattle.contents.specs.Contents.{starts_from}
 use Rattle.sheet_check.specs.Checks.{number_checks, night_told}
 use Rattle.sheet_check.proofs.Laws.{told-stops, told-goes, ordered}
-use borrow.Author.Rules.{rules}
 use Rattle.sheet_check.proofs.cores.by_number.Goals as goal
 
 pub first_row-k5-requires : goal.first_row-k5-requires

@@ -8,7 +8,6 @@ use Rattle.scalars.specs.Scalars.{scalar_count}
 use Rattle.contents.proofs.Laws.{offsets-stop, offsets-go}
 use Rattle.sheet_check.specs.Checks.{room_scalars, room_values, room_checks, night_told, values_here}
 use Rattle.sheet_check.proofs.Laws.{told-stops, told-goes, room-stop, room_go, end-stop, end-go}
-use borrow.Author.Rules.{rules}
 use Rattle.sheet_check.proofs.cores.by_room.Goals as goal
 
 abbrev checks : goal.Then-scalars-gt-ROOM_SCALARS → List Told

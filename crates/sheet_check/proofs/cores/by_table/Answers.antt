@@ -7,7 +7,6 @@ use Rattle.tables.proofs.TableLaws.{sizes-of}
 use Rattle.contents.proofs.Laws.{columns-stop, columns-go, sorted_of}
 use Rattle.sheet_check.specs.Checks.{table_checks, night_told}
 use Rattle.sheet_check.proofs.Laws.{told-stops, told-goes}
-use borrow.Author.Rules.{rules}
 use Rattle.sheet_check.proofs.cores.by_table.Goals as goal
 
 abbrev checks : goal.Then-k2-n → List Told

@@ -6,7 +6,6 @@ use lib.Seq.{length-take-le}
 use Rattle.sheet_bytes.specs.Layout.{u32s, dims_of, late_of, perm_of}
 use Rattle.sheet_check.specs.Sheet.{rows_of, columns_of, offsets_of}
 use Rattle.sheet_unpack.proofs.Laws.{part_of, Same, dims-length, late-length, perm-length, rows-length, columns_length, offsets-length, unpacked, told_same}
-use borrow.Author.Rules.{rules}
 use Rattle.sheet_unpack.proofs.cores.check_in.Goals as goal
 
 pub slice_bounds-by_table-end-2 : goal.slice_bounds-by_table-end-2

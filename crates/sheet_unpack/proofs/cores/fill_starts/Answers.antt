@@ -3,7 +3,6 @@ use Rattle.std.specs.Prelude.{ℕ, ◌+◌, List, ◌++◌, drop}
 use mathlib.Core.Path.{sym, ap}
 use native.Mathlib.Omega.{arith}
 use lib.Seq.{length-take-le}
-use borrow.Author.Rules.{rules}
 use Rattle.sheet_unpack.proofs.cores.fill_starts.Goals as goal
 
 pub slice_bounds-make_starts-end : goal.slice_bounds-make_starts-end

@@ -7,7 +7,6 @@ use Rattle.sheet_check.specs.Sheet.{width, rows_of, columns_of}
 use Rattle.contents.specs.Contents.{starts_from}
 use Rattle.sheet_unpack.specs.Unpack.{Headed}
 use Rattle.sheet_unpack.proofs.Laws.{part_of, columns_length}
-use borrow.Author.Rules.{rules}
 use Rattle.sheet_unpack.proofs.cores.keep_in.Goals as goal
 
 ends : (c : goal.After-fill_f64s-arg-1) → 16 + 12 * c.args.night.blocks + 12 * c.args.night.stored + 8 * c.args.night.values + 8 * c.args.night.scalars ≡ length c.args.bytes.now

@@ -2,7 +2,6 @@
 use Rattle.std.specs.Prelude.{ℕ, ◌+◌, ◌*◌, ◌++◌, drop}
 use mathlib.Core.Path.{ap, ap₂, ◌∙◌}
 use Rattle.sheet_bytes.specs.Layout.{u32s}
-use borrow.Author.Rules.{rules}
 use Rattle.sheet_unpack.proofs.cores.unpack.Goals as goal
 
 pub returns : goal.returns

@@ -1,8 +1,6 @@
 -- `solve_checks::cores::first_parent_of` meets its contract: a search, one turn a place. Assumes nothing.
 use Rattle.std.specs.Prelude.{◌-◌, length}
-use Prim.Native.Nat.{zero-le}
-use native.Mathlib.Omega.{arith}
-use Rattle.tables.proofs.SearchLaws.{Searched, searched, passed, failed, ended}
+use Rattle.tables.proofs.SearchLaws.{Searched}
 use Rattle.solve_checks.specs.Verdict.{parent_fits}
 use Rattle.solve_checks.proofs.cores.first_parent_of.Given as goal
 

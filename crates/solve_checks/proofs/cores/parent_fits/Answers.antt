@@ -1,7 +1,6 @@
 -- `solve_checks::cores::parent_fits` meets its contract: the code's three comparisons are the definition's. Assumes nothing.
 use Rattle.std.specs.Prelude.{◌≡◌, ℕ, ◌<◌, ◌≤◌, Bool, ◌&&◌, ◌||◌, eqb, ltb}
 use mathlib.Core.Path.{sym, ap, ◌∙◌}
-use borrow.Author.Rules.{rules}
 use borrow.Author.Tests.{lt-ltb, le-ltb, eq-eqb, ne_eqb}
 use Rattle.solve_checks.specs.Verdict.{parent_fits}
 use Rattle.solve_checks.proofs.cores.parent_fits.Goals as goal

@@ -2,7 +2,6 @@
 -- and all scratch cleared. Assumes nothing.
 use mathlib.Core.Path.{sym, ap, ◌∙◌}
 use Rattle.std.specs.Prelude.{replicate}
-use borrow.Author.Rules.{rules}
 use Rattle.scalar.specs.Block.{zeros}
 use Rattle.solve_core.proofs.CoreLaws.{permutes-all, perm-long, laid, solves}
 use Rattle.solve_core.proofs.cores.solve_core.Goals as goal
@@ -34,13 +33,16 @@ returns c =
     let b = c.solve_tables in
     let p = c.permute in
     let q = c.substitute in
-    let y-long = q.auto.y ∙ p.auto.y in record { solved_by = solves c.requires.solvable x.l_values.now x.diag.now x.d.now x.x.now p.new.y q.new.y b.new.sizes b.new.starts b.new.perm _
-          b.ensures.1 b.ensures.2 b.ensures.0 p.ensures q.ensures (y-long ∙ c.requires.solve_room.of_y) c.unpermute.ensures; y_after = (
+    let y-long = q.auto.y ∙ p.auto.y in record {
+      solved_by = solves c.requires.solvable x.l_values.now x.diag.now x.d.now x.x.now p.new.y q.new.y b.new.sizes b.new.starts b.new.perm _
+          b.ensures.1 b.ensures.2 b.ensures.0 p.ensures q.ensures (y-long ∙ c.requires.solve_room.of_y) c.unpermute.ensures;
+      y_after = (
         c.clear.ensures ∙ ap zeros y-long,
         c.fill.ensures ∙ ap (λ n. replicate n 0) b.auto.perm,
         c.fill-2.ensures ∙ ap (λ n. replicate n 0) b.auto.sizes,
         c.fill-3.ensures ∙ ap (λ n. replicate n 0) b.auto.starts,
-      ) }
+      );
+    }
 
 pub shape_of-perm : goal.shape_of-perm
 shape_of-perm c = c.fill.auto.s ∙ c.solve_tables.auto.perm

@@ -3,7 +3,6 @@ use Rattle.std.specs.Prelude.{◌≡◌, ℕ, ◌+◌, List, ◌++◌, length, t
 use mathlib.Core.Path.{sym, ap, ◌∙◌}
 use lib.Seq.{length-take-le}
 use native.Mathlib.Omega.{arith}
-use borrow.Author.Rules.{rules}
 use Rattle.scalar.specs.Block.{zeros}
 use Rattle.solve_core.proofs.cores.solve_lent.Goals as goal
 
@@ -41,12 +40,15 @@ pub returns : goal.returns
 returns c =
     let x = c.args in
     let e = c.requires.x_len.0 in
-    let b = c.solve_core in record { solved_by = b.ensures.solved_by; cleared = record {
+    let b = c.solve_core in record {
+      solved_by = b.ensures.solved_by;
+      cleared = record {
         of_y = ap (λ (l : List _). l ++ drop (length x.x.now) x.y.now) (b.ensures.y_after.0 ∙ ap zeros (y-front-2 c)) ∙ ap (λ (m : ℕ). zeros m ++ drop m x.y.now) e;
         of_perm = ap (λ (l : List ℕ). l ++ drop (length x.x.now) x.perm.now) (b.ensures.y_after.1 ∙ ap (λ (m : ℕ). replicate m 0) (perm-front-2 c)) ∙ ap (λ (m : ℕ). replicate m 0 ++ drop m x.perm.now) e;
         of_sizes = ap (λ (l : List ℕ). l ++ drop (length x.dims.now) x.sizes.now) (b.ensures.y_after.2 ∙ ap (λ (m : ℕ). replicate m 0) (sizes-front-2 c));
         of_starts = ap (λ (l : List ℕ). l ++ drop (length x.dims.now + 1) x.starts.now) (b.ensures.y_after.3 ∙ ap (λ (m : ℕ). replicate m 0) (starts-front-2 c));
-      } }
+      };
+    }
 
 y-front-3 : (s : goal.After-solve_core-arg-2-1) → length (take (length s.args.x.now) s.args.y.now) ≡ length s.args.x.now
 y-front-3 s = length-take-le (length s.args.x.now) s.args.y.now (omega (arith, s.requires.x_len))

@@ -1,7 +1,6 @@
 -- `solve_core::cores::solve_tables` meets its contract: one table after the other. Assumes nothing.
 use Rattle.std.specs.Prelude.{◌≡◌}
 use mathlib.Core.Path.{ap, ◌∙◌}
-use borrow.Author.Rules.{rules}
 use Rattle.order.specs.Order.{sizes_of}
 use Rattle.scalars.specs.Scalars.{scalar_starts}
 use Rattle.solve_core.proofs.CoreLaws.{copy_is, copy-inside, sizes-ready}

@@ -1,6 +1,5 @@
 -- `solve_core::cores::substitute` meets its contract: forward, blocks, backward. Assumes nothing.
 use mathlib.Core.Path.{sym, subst, ◌∙◌}
-use borrow.Author.Rules.{rules}
 use Rattle.solution.specs.Flat.{BlocksLaid}
 use Rattle.solve_core.proofs.cores.substitute.Goals as goal
 

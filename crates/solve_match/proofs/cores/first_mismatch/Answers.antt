@@ -1,8 +1,6 @@
 -- `solve_match::cores::first_mismatch` meets its contract: each test that passes leaves the verdict to the checks after it. Assumes nothing.
 use Rattle.std.specs.Prelude.{◌≡◌, List, length, drop}
 use mathlib.Core.Path.{refl, sym, ap, subst, ◌∙◌}
-use borrow.Author.Tests.{not-true, not-false}
-use borrow.Author.Rules.{rules}
 use Rattle.graph.specs.Order.{Permutes, moved}
 use Rattle.graph.proofs.OrderLaws.{moved-permutes}
 use Rattle.refusal.specs.Refusal.{Told, verdict}

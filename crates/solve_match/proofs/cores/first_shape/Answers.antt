@@ -1,8 +1,6 @@
 -- `solve_match::cores::first_shape` meets its contract: each test that passes leaves the verdict to the checks after it. Assumes nothing.
 use Rattle.std.specs.Prelude.{◌≡◌, List, [], drop}
 use mathlib.Core.Path.{refl, sym, ◌∙◌}
-use borrow.Author.Rules.{rules}
-use borrow.Author.Tests.{not-true, not-false}
 use Rattle.refusal.specs.Refusal.{Told, verdict}
 use Rattle.tables.proofs.CheckLaws.{stops, goes}
 use Rattle.scalars.specs.Scalars.{scalar_count}

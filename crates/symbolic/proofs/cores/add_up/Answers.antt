@@ -1,8 +1,7 @@
 -- `symbolic::cores::add_up` meets its contract: two sums, one turn a column. Assumes nothing.
-use Rattle.std.specs.Prelude.{ℕ, ◌+◌, ◌-◌, ◌*◌, length, get_or}
+use Rattle.std.specs.Prelude.{ℕ, ◌+◌, ◌*◌, get_or}
 use mathlib.Core.Path.{sym, subst}
 use native.Mathlib.Omega.{arith}
-use borrow.Author.Rules.{rules}
 use Rattle.symbolic.proofs.Numbers.{Totalled, total-begins, total-turns, total-ends, products-le, half_le}
 use Rattle.symbolic.proofs.cores.add_up.Goals as goal
 

@@ -1,9 +1,6 @@
 -- `symbolic::cores::add_up` meets its contract: two sums, one turn a column. Assumes nothing.
-use Rattle.std.specs.Prelude.{ℕ, ◌+◌, ◌-◌, ◌*◌, length, get_or}
-use mathlib.Core.Path.{sym, subst}
-use native.Mathlib.Omega.{arith}
-use borrow.Author.Rules.{rules}
-use Rattle.symbolic.proofs.Numbers.{Totalled, total-begins, total-turns, total-ends, products-le, half_le}
+use Rattle.std.specs.Prelude.{◌-◌, length}
+use Rattle.symbolic.proofs.Numbers.{Totalled}
 use Rattle.symbolic.proofs.cores.add_up.Given as goal
 
 abbrev pub invariant-loop-k : goal.invariant-loop-k

@@ -1,9 +1,9 @@
 -- `symbolic::cores::count_climbs` meets its contract. The invariants are the records of `Climbs`, and each answer names the law for its way through the code.
 -- Assumes nothing.
-use Rattle.std.specs.Prelude.{◌≡◌, ℕ, ◌-◌, ◌<◌, ◌≤◌, List, [], ◌∷◌, reverse, length, get_or, set}
+use Rattle.std.specs.Prelude.{◌≡◌, ℕ, ◌<◌, ◌≤◌, List, [], ◌∷◌, reverse, length, get_or, set}
 use mathlib.Core.Path.{refl, sym, ap, ◌∙◌}
 use native.Mathlib.Omega.{arith}
-use Rattle.symbolic.proofs.Climbs.{Climbing, Scanning, Counted, CountClimb, bumps-length, goes-up, climb-stops, climb-roots, scan_begins, scan-skips, scan-climbs, scan-ends, room-here, counted_none, counted-one, count-climb-begins, count-climb-turns}
+use Rattle.symbolic.proofs.Climbs.{Climbing, Counted, bumps-length, goes-up, climb-stops, climb-roots, scan_begins, scan-skips, scan-climbs, scan-ends, room-here, counted_none, counted-one, count-climb-begins, count-climb-turns}
 use Rattle.symbolic.proofs.cores.count_climbs.Goals as goal
 use Rattle.symbolic.proofs.cores.count_climbs.Goals.{then-i-j+else-climb-test, then-i-j+then-climb-test+then-up, else-i-j}
 
@@ -116,26 +116,26 @@ loop-q-preserved c =
     let row = get_or c.args.rows.now c.loop-q.q 0 in
     elim c.if-i-j.branch [
       -- left at a mark
-      then-i-j+else-climb-test w ↦
-        let h = w.climb.invariant.held c.args.count.now s.0 s.1.kept s.2 in
-        rw (w.stamp-is, w.count-is, w.total-is) (
-          h.0,
-          scan-climbs c.args.parent.now c.args.rows.now c.args.j c.args.mark c.args.stamp.now c.loop-q.q c.loop-q.stamp s.0 s.1 c.loop-q-test.true w.if-i-j.true w.climb.stamp h.0
-              (climb-stops c.args.parent.now c.args.mark row c.loop-q.stamp s.0 w.climb.at w.climb.stamp h.0 h.1 w.climb-test.false),
-          h.2,
-        )
+      | then-i-j+else-climb-test w ↦
+          let h = w.climb.invariant.held c.args.count.now s.0 s.1.kept s.2 in
+          rw (w.stamp-is, w.count-is, w.total-is) (
+            h.0,
+            scan-climbs c.args.parent.now c.args.rows.now c.args.j c.args.mark c.args.stamp.now c.loop-q.q c.loop-q.stamp s.0 s.1 c.loop-q-test.true w.if-i-j.true w.climb.stamp h.0
+                (climb-stops c.args.parent.now c.args.mark row c.loop-q.stamp s.0 w.climb.at w.climb.stamp h.0 h.1 w.climb-test.false),
+            h.2,
+          )
       -- left past a root
       | then-i-j+then-climb-test+then-up w ↦
-        let h = w.climb.invariant.held c.args.count.now s.0 s.1.kept s.2 in
-        rw (w.stamp-is, w.count-is, w.total-is) (
-          w.climb.at ∷ h.0,
-          scan-climbs c.args.parent.now c.args.rows.now c.args.j c.args.mark c.args.stamp.now c.loop-q.q c.loop-q.stamp s.0 s.1 c.loop-q-test.true w.if-i-j.true (set w.climb.stamp w.climb.at c.args.mark) (w.climb.at ∷ h.0)
-              (climb-roots c.args.parent.now c.args.mark row c.loop-q.stamp s.0 w.climb.at w.climb.stamp h.0 h.1 w.climb-test.true w.if-up.true),
-          counted-one c.args.sizes.now c.args.count.now h.0 w.climb.count w.climb.total w.climb.at (c.requires.parents.3.small w.climb.at) h.2,
-        )
+          let h = w.climb.invariant.held c.args.count.now s.0 s.1.kept s.2 in
+          rw (w.stamp-is, w.count-is, w.total-is) (
+            w.climb.at ∷ h.0,
+            scan-climbs c.args.parent.now c.args.rows.now c.args.j c.args.mark c.args.stamp.now c.loop-q.q c.loop-q.stamp s.0 s.1 c.loop-q-test.true w.if-i-j.true (set w.climb.stamp w.climb.at c.args.mark) (w.climb.at ∷ h.0)
+                (climb-roots c.args.parent.now c.args.mark row c.loop-q.stamp s.0 w.climb.at w.climb.stamp h.0 h.1 w.climb-test.true w.if-up.true),
+            counted-one c.args.sizes.now c.args.count.now h.0 w.climb.count w.climb.total w.climb.at (c.requires.parents.3.small w.climb.at) h.2,
+          )
       -- a row that is not below j
       | else-i-j w ↦ rw (w.stamp-is, w.count-is, w.total-is)
-        (s.0, scan-skips c.args.parent.now c.args.rows.now c.args.j c.args.mark c.args.stamp.now c.loop-q.q c.loop-q.stamp s.0 s.1 c.loop-q-test.true w.if-i-j.false, s.2)
+          (s.0, scan-skips c.args.parent.now c.args.rows.now c.args.j c.args.mark c.args.stamp.now c.loop-q.q c.loop-q.stamp s.0 s.1 c.loop-q-test.true w.if-i-j.false, s.2)
     ]
 
 pub shape_of-stamp : goal.shape_of-stamp

@@ -1,10 +1,7 @@
 -- `symbolic::cores::count_climbs` meets its contract. The invariants are the records of `Climbs`, and each answer names the law for its way through the code.
 -- Assumes nothing.
-use Rattle.std.specs.Prelude.{◌≡◌, ℕ, ◌-◌, ◌<◌, ◌≤◌, List, [], ◌∷◌, reverse, length, get_or, set}
-use mathlib.Core.Path.{refl, sym, ap, ◌∙◌}
-use mathlib.Core.Logic.{⊎_elim}
-use native.Mathlib.Omega.{arith}
-use Rattle.symbolic.proofs.Climbs.{Climbing, Scanning, Counted, CountClimb, bumps-length, goes-up, climb-stops, climb-roots, scan_begins, scan-skips, scan-climbs, scan-ends, room-here, counted_none, counted-one, count-climb-begins, count-climb-turns}
+use Rattle.std.specs.Prelude.{ℕ, ◌-◌, List, length}
+use Rattle.symbolic.proofs.Climbs.{Scanning, Counted, CountClimb}
 use Rattle.symbolic.proofs.cores.count_climbs.Given as goal
 
 abbrev pub invariant-climb : goal.invariant-climb

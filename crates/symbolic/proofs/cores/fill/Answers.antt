@@ -1,14 +1,13 @@
 -- `symbolic::cores::fill` meets its contract: the table holds the columns made so far. Assumes nothing.
-use Rattle.std.specs.Prelude.{◌≡◌, ℕ, ◌+◌, ◌-◌, length, get_or, take, drop, replicate}
+use Rattle.std.specs.Prelude.{ℕ, ◌+◌, ◌-◌, length, get_or, take, drop, replicate}
 use mathlib.Core.Path.{refl, sym, ap, ◌∙◌}
 use native.Mathlib.Omega.{arith}
-use borrow.Author.Rules.{rules}
 use lib.ListN.{length-set}
 use Rattle.graph.proofs.SymbolicLaws.{columns_length}
 use Rattle.buckets.proofs.Lists.{part_slice}
 use Rattle.elimination_tree.specs.Tree.{linked_up}
 use Rattle.symbolic.proofs.Walks.{tree-rule}
-use Rattle.symbolic.proofs.Passes.{Filling, fill_begins, fill_asks, fill_turns, fill_ends}
+use Rattle.symbolic.proofs.Passes.{fill_begins, fill_asks, fill_turns, fill_ends}
 use Rattle.symbolic.proofs.cores.fill.Goals as goal
 
 pub copy-requires : goal.copy-requires

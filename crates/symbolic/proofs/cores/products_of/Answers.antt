@@ -1,6 +1,5 @@
 -- `symbolic::cores::products_of` meets its contract. Assumes nothing.
 use native.Mathlib.Omega.{arith}
-use borrow.Author.Rules.{rules}
 use Rattle.symbolic.proofs.Numbers.{products-le}
 use Rattle.symbolic.proofs.cores.products_of.Goals as goal
 

@@ -1,9 +1,9 @@
 -- `symbolic::cores::store_climbs` meets its contract. The invariants are the records of `Climbs`, and each answer names the law for its way through the code.
 -- Assumes nothing.
-use Rattle.std.specs.Prelude.{◌≡◌, ℕ, ◌-◌, ◌<◌, List, [], ◌∷◌, reverse, length, get_or, set}
+use Rattle.std.specs.Prelude.{◌≡◌, ◌<◌, [], ◌∷◌, reverse, length, get_or, set}
 use mathlib.Core.Path.{refl, sym, ap, ◌∙◌}
 use native.Mathlib.Omega.{arith}
-use Rattle.symbolic.proofs.Climbs.{Scanning, Stored, StoreClimb, bumps-length, stores-length, goes-up, climb-stops, climb-roots, scan_begins, scan-skips, scan-climbs, scan-ends, room-here, stored-none, stored_one, store-climb-begins, store-climb-turns}
+use Rattle.symbolic.proofs.Climbs.{bumps-length, stores-length, goes-up, climb-stops, climb-roots, scan_begins, scan-skips, scan-climbs, scan-ends, room-here, stored-none, stored_one, store-climb-begins, store-climb-turns}
 use Rattle.symbolic.proofs.cores.store_climbs.Goals as goal
 use Rattle.symbolic.proofs.cores.store_climbs.Goals.{then-i-j+else-climb-test, then-i-j+then-climb-test+then-up, else-i-j}
 
@@ -107,26 +107,26 @@ loop-q-preserved c =
     let row = get_or c.args.rows.now c.loop-q.q 0 in
     elim c.if-i-j.branch [
       -- left at a mark
-      then-i-j+else-climb-test w ↦
-        let h = w.climb.invariant.held c.args.next.now c.args.table.now s.0 s.1.kept s.2 in
-        rw (w.stamp-is, w.next-is, w.table-is) (
-          h.0,
-          scan-climbs c.args.parent.now c.args.rows.now c.args.j c.args.mark c.args.stamp.now c.loop-q.q c.loop-q.stamp s.0 s.1 c.loop-q-test.true w.if-i-j.true w.climb.stamp h.0
-              (climb-stops c.args.parent.now c.args.mark row c.loop-q.stamp s.0 w.climb.at w.climb.stamp h.0 h.1 w.climb-test.false),
-          h.2,
-        )
+      | then-i-j+else-climb-test w ↦
+          let h = w.climb.invariant.held c.args.next.now c.args.table.now s.0 s.1.kept s.2 in
+          rw (w.stamp-is, w.next-is, w.table-is) (
+            h.0,
+            scan-climbs c.args.parent.now c.args.rows.now c.args.j c.args.mark c.args.stamp.now c.loop-q.q c.loop-q.stamp s.0 s.1 c.loop-q-test.true w.if-i-j.true w.climb.stamp h.0
+                (climb-stops c.args.parent.now c.args.mark row c.loop-q.stamp s.0 w.climb.at w.climb.stamp h.0 h.1 w.climb-test.false),
+            h.2,
+          )
       -- left past a root
       | then-i-j+then-climb-test+then-up w ↦
-        let h = w.climb.invariant.held c.args.next.now c.args.table.now s.0 s.1.kept s.2 in
-        rw (w.stamp-is, w.next-is, w.table-is) (
-          w.climb.at ∷ h.0,
-          scan-climbs c.args.parent.now c.args.rows.now c.args.j c.args.mark c.args.stamp.now c.loop-q.q c.loop-q.stamp s.0 s.1 c.loop-q-test.true w.if-i-j.true (set w.climb.stamp w.climb.at c.args.mark) (w.climb.at ∷ h.0)
-              (climb-roots c.args.parent.now c.args.mark row c.loop-q.stamp s.0 w.climb.at w.climb.stamp h.0 h.1 w.climb-test.true w.if-up.true),
-          stored_one c.args.j c.args.next.now c.args.table.now h.0 w.climb.next w.climb.table w.climb.at h.2,
-        )
+          let h = w.climb.invariant.held c.args.next.now c.args.table.now s.0 s.1.kept s.2 in
+          rw (w.stamp-is, w.next-is, w.table-is) (
+            w.climb.at ∷ h.0,
+            scan-climbs c.args.parent.now c.args.rows.now c.args.j c.args.mark c.args.stamp.now c.loop-q.q c.loop-q.stamp s.0 s.1 c.loop-q-test.true w.if-i-j.true (set w.climb.stamp w.climb.at c.args.mark) (w.climb.at ∷ h.0)
+                (climb-roots c.args.parent.now c.args.mark row c.loop-q.stamp s.0 w.climb.at w.climb.stamp h.0 h.1 w.climb-test.true w.if-up.true),
+            stored_one c.args.j c.args.next.now c.args.table.now h.0 w.climb.next w.climb.table w.climb.at h.2,
+          )
       -- a row that is not below j
       | else-i-j w ↦ rw (w.stamp-is, w.next-is, w.table-is)
-        (s.0, scan-skips c.args.parent.now c.args.rows.now c.args.j c.args.mark c.args.stamp.now c.loop-q.q c.loop-q.stamp s.0 s.1 c.loop-q-test.true w.if-i-j.false, s.2)
+          (s.0, scan-skips c.args.parent.now c.args.rows.now c.args.j c.args.mark c.args.stamp.now c.loop-q.q c.loop-q.stamp s.0 s.1 c.loop-q-test.true w.if-i-j.false, s.2)
     ]
 
 pub shape_of-stamp : goal.shape_of-stamp

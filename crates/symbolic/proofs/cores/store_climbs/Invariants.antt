@@ -1,10 +1,7 @@
 -- `symbolic::cores::store_climbs` meets its contract. The invariants are the records of `Climbs`, and each answer names the law for its way through the code.
 -- Assumes nothing.
-use Rattle.std.specs.Prelude.{◌≡◌, ℕ, ◌-◌, ◌<◌, List, [], ◌∷◌, reverse, length, get_or, set}
-use mathlib.Core.Path.{refl, sym, ap, ◌∙◌}
-use mathlib.Core.Logic.{⊎_elim}
-use native.Mathlib.Omega.{arith}
-use Rattle.symbolic.proofs.Climbs.{Scanning, Stored, StoreClimb, bumps-length, stores-length, goes-up, climb-stops, climb-roots, scan_begins, scan-skips, scan-climbs, scan-ends, room-here, stored-none, stored_one, store-climb-begins, store-climb-turns}
+use Rattle.std.specs.Prelude.{ℕ, ◌-◌, List, length}
+use Rattle.symbolic.proofs.Climbs.{Scanning, Stored, StoreClimb}
 use Rattle.symbolic.proofs.cores.store_climbs.Given as goal
 
 abbrev pub invariant-climb : goal.invariant-climb

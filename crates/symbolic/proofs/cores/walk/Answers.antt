@@ -2,7 +2,6 @@
 use Rattle.std.specs.Prelude.{◌+◌, ◌-◌, length, get_or, take, drop}
 use mathlib.Core.Path.{◌∙◌}
 use native.Mathlib.Omega.{arith}
-use borrow.Author.Rules.{rules}
 use lib.ListN.{length-set}
 use Rattle.buckets.proofs.Lists.{part_slice}
 use Rattle.symbolic.proofs.Walks.{tree-rule, walk_ends}

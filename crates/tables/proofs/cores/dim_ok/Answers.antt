@@ -1,5 +1,4 @@
 -- `tables::cores::dim_ok` meets its contract: the code's two comparisons are the definition's. Assumes nothing.
-use borrow.Author.Rules.{rules}
 use borrow.Author.Tests.{le-leb, lt-leb}
 use Rattle.tables.specs.Verdict.{dim_ok}
 use Rattle.tables.proofs.cores.dim_ok.Goals as goal

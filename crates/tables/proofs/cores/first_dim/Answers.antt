@@ -1,8 +1,7 @@
 -- `tables::cores::first_dim` meets its contract: a search, one turn a place. Assumes nothing.
-use Rattle.std.specs.Prelude.{◌-◌, length}
 use Prim.Native.Nat.{zero-le}
 use native.Mathlib.Omega.{arith}
-use Rattle.tables.proofs.SearchLaws.{Searched, searched, passed, failed, ended}
+use Rattle.tables.proofs.SearchLaws.{searched, passed, failed, ended}
 use Rattle.tables.specs.Verdict.{dim_ok}
 use Rattle.tables.proofs.cores.first_dim.Goals as goal
 

@@ -1,9 +1,7 @@
 -- `tables::cores::first_late` meets its contract: a search, one turn a place. Assumes nothing.
 use Rattle.std.specs.Prelude.{◌+◌, ◌-◌}
-use Prim.Native.Nat.{zero-le}
-use native.Mathlib.Omega.{arith}
 use Rattle.tables.specs.Verdict.{late_ok}
-use Rattle.tables.proofs.SearchLaws.{Searched, searched, passed, failed, ended}
+use Rattle.tables.proofs.SearchLaws.{Searched}
 use Rattle.tables.proofs.cores.first_late.Given as goal
 
 abbrev pub invariant-loop-i : goal.invariant-loop-i

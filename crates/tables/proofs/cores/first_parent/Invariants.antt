@@ -1,8 +1,6 @@
 -- `tables::cores::first_parent` meets its contract: a search, one turn a place. Assumes nothing.
 use Rattle.std.specs.Prelude.{◌-◌, length}
-use Prim.Native.Nat.{zero-le}
-use native.Mathlib.Omega.{arith}
-use Rattle.tables.proofs.SearchLaws.{Searched, searched, passed, failed, ended}
+use Rattle.tables.proofs.SearchLaws.{Searched}
 use Rattle.tables.specs.Verdict.{parent_ok}
 use Rattle.tables.proofs.cores.first_parent.Given as goal
 

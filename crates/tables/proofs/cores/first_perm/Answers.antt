@@ -1,14 +1,11 @@
 -- `tables::cores::first_perm` meets its contract: a search, one turn a place, with a mark for each entry passed. Assumes nothing.
-use Rattle.std.specs.Prelude.{◌+◌, ◌-◌, ◌<◌, ◌≤◌, length, get_or, take}
+use Rattle.std.specs.Prelude.{◌<◌, length, get_or}
 use Prim.Native.Nat.{zero-le}
 use native.Mathlib.Omega.{arith}
-use borrow.Author.Rules.{rules}
 use mathlib.Core.Path.{sym, ◌∙◌}
-use borrow.Author.Tests.{not-false}
 use Rattle.tables.proofs.MarkLaws.{marked-none, marked_more, perm-parts}
-use Rattle.tables.specs.Sound.{Marked}
 use Rattle.tables.specs.Verdict.{perm_ok}
-use Rattle.tables.proofs.SearchLaws.{Searched, searched, passed, failed, ended}
+use Rattle.tables.proofs.SearchLaws.{searched, passed, failed, ended}
 use Rattle.tables.proofs.cores.first_perm.Goals as goal
 
 pub loop-i-init : goal.loop-i-init

@@ -1,14 +1,8 @@
 -- `tables::cores::first_perm` meets its contract: a search, one turn a place, with a mark for each entry passed. Assumes nothing.
-use Rattle.std.specs.Prelude.{◌+◌, ◌-◌, ◌<◌, ◌≤◌, length, get_or, take}
-use Prim.Native.Nat.{zero-le}
-use native.Mathlib.Omega.{arith}
-use borrow.Author.Rules.{rules}
-use mathlib.Core.Path.{sym, ◌∙◌}
-use borrow.Author.Tests.{not-false}
-use Rattle.tables.proofs.MarkLaws.{marked-none, marked_more, perm-parts}
+use Rattle.std.specs.Prelude.{◌+◌, ◌-◌, ◌≤◌, take}
 use Rattle.tables.specs.Sound.{Marked}
 use Rattle.tables.specs.Verdict.{perm_ok}
-use Rattle.tables.proofs.SearchLaws.{Searched, searched, passed, failed, ended}
+use Rattle.tables.proofs.SearchLaws.{Searched}
 use Rattle.tables.proofs.cores.first_perm.Given as goal
 
 abbrev pub invariant-loop-i : goal.invariant-loop-i

@@ -1,5 +1,4 @@
 -- `tables::cores::late_ok` meets its contract: the code's comparisons are the definition's. Assumes nothing.
-use borrow.Author.Rules.{rules}
 use borrow.Author.Tests.{lt-ltb, le-ltb}
 use Rattle.tables.specs.Verdict.{late_ok}
 use Rattle.tables.proofs.cores.late_ok.Goals as goal

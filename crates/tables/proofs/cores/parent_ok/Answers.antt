@@ -1,7 +1,6 @@
 -- `tables::cores::parent_ok` meets its contract: the code's three comparisons are the definition's. Assumes nothing.
 use Rattle.std.specs.Prelude.{◌≡◌, ℕ, ◌<◌, ◌≤◌, Bool, ◌&&◌, ◌||◌, eqb, ltb}
 use mathlib.Core.Path.{sym, ap, ◌∙◌}
-use borrow.Author.Rules.{rules}
 use borrow.Author.Tests.{lt-ltb, le-ltb, eq-eqb, ne_eqb}
 use Rattle.tables.specs.Verdict.{parent_ok}
 use Rattle.tables.proofs.cores.parent_ok.Goals as goal

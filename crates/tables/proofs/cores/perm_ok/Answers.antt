@@ -1,5 +1,4 @@
 -- `tables::cores::perm_ok` meets its contract: the mark of an entry says whether it came before. Assumes nothing.
-use borrow.Author.Rules.{rules}
 use borrow.Author.Tests.{lt-ltb, le-ltb}
 use native.Mathlib.Omega.{arith}
 use Rattle.tables.proofs.MarkLaws.{unmarked}

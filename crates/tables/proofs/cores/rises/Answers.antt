@@ -1,5 +1,4 @@
 -- `tables::cores::rises` meets its contract: the code's comparisons are the definition's. Assumes nothing.
-use borrow.Author.Rules.{rules}
 use borrow.Author.Tests.{eq-eqb, ne_eqb}
 use Rattle.tables.specs.Verdict.{rises_at}
 use Rattle.tables.proofs.cores.rises.Goals as goal

@@ -1,6 +1,5 @@
 -- `tables::cores::start_ok` meets its contract: the code's comparisons are the definition's. Assumes nothing.
-use borrow.Author.Rules.{rules}
-use borrow.Author.Tests.{le-leb, lt-leb, lt-ltb, le-ltb, not-true, not-false}
+use borrow.Author.Tests.{le-leb, lt-leb, lt-ltb, le-ltb}
 use Rattle.tables.specs.Verdict.{start_ok}
 use Rattle.tables.proofs.cores.start_ok.Goals as goal
 

@@ -1,10 +1,9 @@
 -- `tiled_multiply::cores::one` meets its contract. Assumes nothing.
-use Rattle.std.specs.Prelude.{◌≡◌, ◌+◌, ◌-◌, ◌≤◌}
+use Rattle.std.specs.Prelude.{◌+◌, ◌-◌}
 use mathlib.Core.Path.{◌∙◌}
 use native.Mathlib.Omega.{arith}
 use lib.Ieee.{binary64, mul}
 use borrow.Author.Rules.{rules}
-use Rattle.scalar.specs.Loop.{steps}
 use Rattle.scalar.specs.Block.{at, gain}
 use Rattle.scalar.proofs.Laws.{steps-none, steps_next, steps_all, kernels}
 use Rattle.tiled_multiply.proofs.GridLaws.{one_entry}

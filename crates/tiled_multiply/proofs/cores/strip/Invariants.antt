@@ -1,10 +1,7 @@
 -- `tiled_multiply::cores::strip` meets its contract. Assumes nothing.
 use Rattle.std.specs.Prelude.{◌≡◌, ◌-◌, ◌*◌, ◌≤◌, length}
-use mathlib.Core.Path.{refl}
-use borrow.Author.Rules.{rules}
 use Rattle.machine.specs.Machine.{product_entry}
 use Rattle.tiled_product.specs.Tiled.{Stripped}
-use Rattle.tiled_product.proofs.StripLaws.{strip-none, strip-more, strip_all}
 use Rattle.tiled_multiply.proofs.cores.strip.Given as goal
 
 abbrev pub invariant-loop-i : goal.invariant-loop-i

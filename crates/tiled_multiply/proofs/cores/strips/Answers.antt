@@ -1,8 +1,7 @@
 -- `tiled_multiply::cores::strips` meets its contract. Assumes nothing.
-use Rattle.std.specs.Prelude.{◌≡◌, ◌-◌, ◌*◌, length}
 use native.Mathlib.Omega.{arith}
 use borrow.Author.Rules.{rules}
-use Rattle.tiled_multiply.proofs.FillLaws.{Columns, columns_none, columns_more, columns_all}
+use Rattle.tiled_multiply.proofs.FillLaws.{columns_none, columns_more, columns_all}
 use Rattle.tiled_multiply.proofs.cores.strips.Goals as goal
 
 pub loop-j-init : goal.loop-j-init

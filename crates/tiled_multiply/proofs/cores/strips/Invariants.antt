@@ -1,8 +1,6 @@
 -- `tiled_multiply::cores::strips` meets its contract. Assumes nothing.
 use Rattle.std.specs.Prelude.{◌≡◌, ◌-◌, ◌*◌, length}
-use native.Mathlib.Omega.{arith}
-use borrow.Author.Rules.{rules}
-use Rattle.tiled_multiply.proofs.FillLaws.{Columns, columns_none, columns_more, columns_all}
+use Rattle.tiled_multiply.proofs.FillLaws.{Columns}
 use Rattle.tiled_multiply.proofs.cores.strips.Given as goal
 
 abbrev pub invariant-loop-j : goal.invariant-loop-j

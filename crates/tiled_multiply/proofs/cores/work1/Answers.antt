@@ -1,9 +1,7 @@
 -- `tiled_multiply::cores::work1` meets its contract. Assumes nothing.
-use Rattle.std.specs.Prelude.{◌≡◌, ◌-◌, ◌≤◌}
 use native.Mathlib.Omega.{arith}
 use borrow.Author.Rules.{rules}
 use Rattle.scalar.proofs.Laws.{steps-none, steps_next, kernels}
-use Rattle.tiled_multiply.specs.Made.{made_three}
 use Rattle.tiled_multiply.proofs.cores.work1.Goals as goal
 
 pub entry-requires : goal.entry-requires

@@ -1,8 +1,5 @@
 -- `tiled_multiply::cores::work1` meets its contract. Assumes nothing.
 use Rattle.std.specs.Prelude.{◌≡◌, ◌-◌, ◌≤◌}
-use native.Mathlib.Omega.{arith}
-use borrow.Author.Rules.{rules}
-use Rattle.scalar.proofs.Laws.{steps-none, steps_next, kernels}
 use Rattle.tiled_multiply.specs.Made.{made_three}
 use Rattle.tiled_multiply.proofs.cores.work1.Given as goal
 

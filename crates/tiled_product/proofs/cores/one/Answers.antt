@@ -1,5 +1,4 @@
 -- `tiled_product::cores::one` meets its contract. Assumes nothing.
-use Rattle.std.specs.Prelude.{◌≡◌, ◌-◌, ◌≤◌}
 use mathlib.Core.Path.{ap, ◌∙◌}
 use borrow.Author.Rules.{rules}
 use Rattle.scalar.specs.Loop.{steps}

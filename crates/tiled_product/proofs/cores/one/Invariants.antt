@@ -1,11 +1,8 @@
 -- `tiled_product::cores::one` meets its contract. Assumes nothing.
 use Rattle.std.specs.Prelude.{◌≡◌, ◌-◌, ◌≤◌}
-use mathlib.Core.Path.{ap, ◌∙◌}
-use borrow.Author.Rules.{rules}
 use Rattle.scalar.specs.Loop.{steps}
-use Rattle.scalar.specs.Block.{at, put}
-use Rattle.scalar.proofs.Laws.{steps-none, steps_next, steps_all, kernels}
-use Rattle.tiled_product.specs.Tiled.{lose_at, sub_mat_mat_t}
+use Rattle.scalar.specs.Block.{at}
+use Rattle.tiled_product.specs.Tiled.{lose_at}
 use Rattle.tiled_product.proofs.cores.one.Given as goal
 
 abbrev pub invariant-loop-t : goal.invariant-loop-t

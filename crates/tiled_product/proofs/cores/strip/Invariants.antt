@@ -1,9 +1,6 @@
 -- `tiled_product::cores::strip` meets its contract. Assumes nothing.
 use Rattle.std.specs.Prelude.{◌≡◌, ◌-◌, ◌*◌, ◌≤◌, length}
-use borrow.Author.Rules.{rules}
 use Rattle.tiled_product.specs.Tiled.{Stripped, lost_entry}
-use Rattle.tiled_product.proofs.StripLaws.{strip-none, strip_all}
-use Rattle.tiled_product.proofs.TileLaws.{strip-after}
 use Rattle.tiled_product.proofs.cores.strip.Given as goal
 
 abbrev pub invariant-loop-i : goal.invariant-loop-i

@@ -1,8 +1,7 @@
 -- `tiled_product::cores::strips` meets its contract. Assumes nothing.
-use Rattle.std.specs.Prelude.{◌≡◌, ◌-◌, ◌*◌, length}
 use native.Mathlib.Omega.{arith}
 use borrow.Author.Rules.{rules}
-use Rattle.tiled_product.proofs.TileLaws.{Columns, columns_none, columns_more, columns_all}
+use Rattle.tiled_product.proofs.TileLaws.{columns_none, columns_more, columns_all}
 use Rattle.tiled_product.proofs.cores.strips.Goals as goal
 
 pub loop-j-init : goal.loop-j-init

@@ -1,11 +1,8 @@
 -- `tiled_product::cores::times_diag_core` meets its contract. Assumes nothing.
 use Rattle.std.specs.Prelude.{◌≡◌, ◌-◌, ◌*◌, ◌≤◌, length, get_or}
 use lib.Ieee.{nan}
-use borrow.Author.Rules.{rules}
 use Rattle.scalar.specs.Loop.{steps}
-use Rattle.scalar.proofs.Laws.{steps_next, steps_all, kernels}
 use Rattle.kernel_diag_right.specs.DiagRight.{scale_column}
-use Rattle.tiled_product.specs.Tiled.{times_diag}
 use Rattle.tiled_product.proofs.cores.times_diag_core.Given as goal
 
 abbrev pub invariant-loop-j : goal.invariant-loop-j

@@ -1,7 +1,5 @@
 -- `tiled_product::cores::work1` meets its contract. Assumes nothing.
 use Rattle.std.specs.Prelude.{◌≡◌, ◌-◌, ◌≤◌}
-use borrow.Author.Rules.{rules}
-use Rattle.scalar.proofs.Laws.{steps_next, kernels}
 use Rattle.tiled_product.specs.Tiled.{lost_three}
 use Rattle.tiled_product.proofs.cores.work1.Given as goal
 

@@ -1,8 +1,6 @@
 -- `tiled_product::cores::work3` meets its contract. Assumes nothing.
-use Rattle.std.specs.Prelude.{◌≡◌, ◌-◌, ◌≤◌}
 use borrow.Author.Rules.{rules}
 use Rattle.scalar.proofs.Laws.{steps_next, kernels}
-use Rattle.tiled_product.specs.Tiled.{lost_nine}
 use Rattle.tiled_product.proofs.cores.work3.Goals as goal
 
 pub loop-t-init : goal.loop-t-init

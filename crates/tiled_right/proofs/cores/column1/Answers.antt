@@ -1,8 +1,6 @@
 -- `tiled_right::cores::column1` meets its contract: the invariant: how far the loop of the definition is; then what is held is put into what the store promises. Assumes nothing.
-use Rattle.std.specs.Prelude.{◌≡◌, ◌-◌, ◌≤◌}
 use borrow.Author.Rules.{rules}
 use Rattle.scalar.proofs.Laws.{steps_next, steps_all, kernels}
-use Rattle.tiled_right.specs.TiledRight.{lost}
 use Rattle.tiled_right.proofs.cores.column1.Goals as goal
 
 pub loop-v-preserved : goal.loop-v-preserved

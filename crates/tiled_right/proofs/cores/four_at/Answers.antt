@@ -1,5 +1,4 @@
 -- `tiled_right::cores::four_at` meets its contract. Assumes nothing.
-use borrow.Author.Rules.{rules}
 use Rattle.tiled_right.proofs.cores.four_at.Goals as goal
 
 pub returns : goal.returns

@@ -1,7 +1,6 @@
 -- `tiled_right::cores::ldlt_right_matsolve_tiled` meets its contract: the invariant: the rows above i are solved. Assumes nothing.
-use Rattle.std.specs.Prelude.{◌≡◌, ◌-◌, ◌*◌, ◌≤◌, length}
 use borrow.Author.Rules.{rules}
-use Rattle.tiled_right.proofs.Tiles.{Above, above_none, above_more, above_all}
+use Rattle.tiled_right.proofs.Tiles.{above_none, above_more, above_all}
 use Rattle.tiled_right.proofs.cores.ldlt_right_matsolve_tiled.Goals as goal
 
 pub loop-i-init : goal.loop-i-init

@@ -1,7 +1,7 @@
 -- `tiled_right::cores::rows4` meets its contract: two loops, two invariants: how far the tile is. Assumes nothing.
-use Rattle.std.specs.Prelude.{◌≡◌, ◌+◌, ◌-◌, ◌*◌, ◌≤◌, true, false, length}
+use Rattle.std.specs.Prelude.{◌+◌, ◌-◌, true, false}
 use borrow.Author.Rules.{rules}
-use Rattle.tiled_right.proofs.Tiles.{Tile, four-wrote, held_none, forward-more, forward-all, backward-more, backward_all}
+use Rattle.tiled_right.proofs.Tiles.{four-wrote, held_none, forward-more, forward-all, backward-more, backward_all}
 use Rattle.tiled_right.proofs.cores.rows4.Goals as goal
 
 pub loop-j-init : goal.loop-j-init

@@ -1,7 +1,6 @@
 -- `tiled_right::cores::rows4` meets its contract: two loops, two invariants: how far the tile is. Assumes nothing.
-use Rattle.std.specs.Prelude.{◌≡◌, ◌+◌, ◌-◌, ◌*◌, ◌≤◌, true, false, length}
-use borrow.Author.Rules.{rules}
-use Rattle.tiled_right.proofs.Tiles.{Tile, four-wrote, held_none, forward-more, forward-all, backward-more, backward_all}
+use Rattle.std.specs.Prelude.{◌≡◌, ◌-◌, ◌*◌, ◌≤◌, length}
+use Rattle.tiled_right.proofs.Tiles.{Tile}
 use Rattle.tiled_right.proofs.cores.rows4.Given as goal
 
 abbrev pub invariant-loop-j : goal.invariant-loop-j

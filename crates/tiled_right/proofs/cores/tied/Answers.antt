@@ -1,5 +1,4 @@
 -- `tiled_right::cores::tied` meets its contract: by which way it is read. Assumes nothing.
-use borrow.Author.Rules.{rules}
 use Rattle.tiled_right.proofs.cores.tied.Goals as goal
 
 pub returns-then-after : goal.returns-then-after

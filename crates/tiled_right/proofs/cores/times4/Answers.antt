@@ -1,5 +1,4 @@
 -- `tiled_right::cores::times4` meets its contract. Assumes nothing.
-use borrow.Author.Rules.{rules}
 use Rattle.tiled_right.proofs.cores.times4.Goals as goal
 
 pub returns : goal.returns

@@ -1,5 +1,4 @@
 -- `tiled_right::cores::turn3` meets its contract. Assumes nothing.
-use borrow.Author.Rules.{rules}
 use Rattle.tiled_right.proofs.cores.turn3.Goals as goal
 
 pub returns : goal.returns

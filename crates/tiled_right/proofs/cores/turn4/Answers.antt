@@ -1,5 +1,4 @@
 -- `tiled_right::cores::turn4` meets its contract. Assumes nothing.
-use borrow.Author.Rules.{rules}
 use Rattle.tiled_right.proofs.cores.turn4.Goals as goal
 
 pub returns : goal.returns

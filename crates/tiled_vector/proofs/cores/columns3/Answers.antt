@@ -1,6 +1,5 @@
 -- `tiled_vector::cores::columns3` meets its contract. Assumes nothing.
 use native.Mathlib.Nat.{add-sub_cancel_left}
-use borrow.Author.Rules.{rules}
 use Rattle.tiled_vector.proofs.cores.columns3.Goals as goal
 
 pub returns : goal.returns

@@ -1,5 +1,4 @@
 -- `tiled_vector::cores::gain4` meets its contract. Assumes nothing.
-use borrow.Author.Rules.{rules}
 use Rattle.tiled_vector.proofs.cores.gain4.Goals as goal
 
 pub returns : goal.returns

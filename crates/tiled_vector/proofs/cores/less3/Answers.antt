@@ -1,5 +1,4 @@
 -- `tiled_vector::cores::less3` meets its contract. Assumes nothing.
-use borrow.Author.Rules.{rules}
 use Rattle.tiled_vector.proofs.cores.less3.Goals as goal
 
 pub returns : goal.returns

@@ -1,5 +1,4 @@
 -- `tiled_vector::cores::less4` meets its contract. Assumes nothing.
-use borrow.Author.Rules.{rules}
 use Rattle.tiled_vector.proofs.cores.less4.Goals as goal
 
 pub returns : goal.returns

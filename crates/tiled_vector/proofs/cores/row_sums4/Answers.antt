@@ -1,14 +1,11 @@
 -- `tiled_vector::cores::row_sums4` meets its contract: the invariant: how far the sums are. Assumes nothing.
-use Rattle.std.specs.Prelude.{◌≡◌, ◌-◌, ◌≤◌, get_or}
+use Rattle.std.specs.Prelude.{get_or}
 use mathlib.Core.Path.{◌∙◌}
 use lib.Ieee.{nan}
 use borrow.Author.Rules.{rules}
-use Rattle.scalar.specs.Loop.{steps}
 use Rattle.scalar.specs.Block.{at}
-use Rattle.scalar.specs.Scalar.{nought}
 use Rattle.scalar.proofs.Laws.{steps_next, steps_all, kernels}
 use Rattle.tiled_right.specs.TiledRight.{four_at}
-use Rattle.tiled_vector.specs.TiledVector.{gain_four}
 use Rattle.tiled_vector.proofs.Parts.{four-sums}
 use Rattle.tiled_vector.proofs.cores.row_sums4.Goals as goal
 

@@ -1,13 +1,9 @@
 -- `tiled_vector::cores::sub_rows` meets its contract: the invariant: how many numbers have lost their sums. Assumes nothing.
 use Rattle.std.specs.Prelude.{◌≡◌, ◌-◌, ◌≤◌, length}
-use mathlib.Core.Logic.{inl}
-use mathlib.Core.Path.{refl}
-use borrow.Author.Rules.{rules}
 use Rattle.scalar.specs.Block.{within}
-use Rattle.kernel_vector.specs.Vector.{row_sum, sub_mat_plus_vec}
+use Rattle.kernel_vector.specs.Vector.{row_sum}
 use Rattle.block_product.specs.Working.{slot}
 use Rattle.tiled_vector.specs.TiledVector.{each_less}
-use Rattle.tiled_vector.proofs.Parts.{part_none, part-one, part-three, part-four, part-all}
 use Rattle.tiled_vector.proofs.cores.sub_rows.Given as goal
 
 abbrev pub invariant-loop-r : goal.invariant-loop-r

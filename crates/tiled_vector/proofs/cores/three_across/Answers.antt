@@ -1,5 +1,4 @@
 -- `tiled_vector::cores::three_across` meets its contract. Assumes nothing.
-use borrow.Author.Rules.{rules}
 use Rattle.tiled_vector.proofs.cores.three_across.Goals as goal
 
 pub returns : goal.returns

@@ -61,12 +61,15 @@ apply_reach-requires c =
     let all =
     few t n (length values) (length c.args.c.now) laid into upper grown j below next nx unit-starts d-starts places
     (length diag) (length d) (length c.args.qj.now) (length c.args.qi.now)
-    c.requires.diagonal_laid c.requires.placed.0 c.requires.placed.2 c.requires.in_bounds.0 c.requires.in_bounds.1 short c.requires.grown.liu.pattern.few in record { reach_fit = subst (λ (l : List ℕ). ReachFit (plan_at t unit-starts d-starts places) c.args.l_starts.now j l next (length values) (length diag) (length d) (length c.args.qj.now) (length c.args.qi.now) (length c.args.c.now))
+    c.requires.diagonal_laid c.requires.placed.0 c.requires.placed.2 c.requires.in_bounds.0 c.requires.in_bounds.1 short c.requires.grown.liu.pattern.few in record {
+      reach_fit = subst (λ (l : List ℕ). ReachFit (plan_at t unit-starts d-starts places) c.args.l_starts.now j l next (length values) (length diag) (length d) (length c.args.qj.now) (length c.args.qi.now) (length c.args.c.now))
           (sym is)
           (fits t n (length values) (length c.args.c.now) laid into upper grown j below next nx unit-starts d-starts places
           (length diag) (length d) (length c.args.qj.now) (length c.args.qi.now)
-          c.requires.diagonal_laid c.requires.placed.0 c.requires.placed.2 c.requires.in_bounds.0 c.requires.in_bounds.1); reach_bound = subst (λ (l : List ℕ). c.args.count + length (reach_triples (plan_at t unit-starts d-starts places) c.args.l_starts.now next j l) < 2 ^ 64) (sym is)
-          (omega (arith, all, c.requires.in_bounds.2, below, c.requires.grown.liu.pattern.few)) }
+          c.requires.diagonal_laid c.requires.placed.0 c.requires.placed.2 c.requires.in_bounds.0 c.requires.in_bounds.1);
+      reach_bound = subst (λ (l : List ℕ). c.args.count + length (reach_triples (plan_at t unit-starts d-starts places) c.args.l_starts.now next j l) < 2 ^ 64) (sym is)
+          (omega (arith, all, c.requires.in_bounds.2, below, c.requires.grown.liu.pattern.few));
+    }
 
 pub shape_of-stamps : goal.shape_of-stamps
 shape_of-stamps c = search rules
@@ -118,7 +121,11 @@ returns c =
     let all =
     few t n (length values) (length c.args.c.now) laid into upper grown j below next nx unit-starts d-starts places
     (length diag) (length d) (length c.args.qj.now) (length c.args.qi.now)
-    c.requires.diagonal_laid c.requires.placed.0 c.requires.placed.2 c.requires.in_bounds.0 c.requires.in_bounds.1 short c.requires.grown.liu.pattern.few in record { next_2 = subst (Next t n (j + 1)) (sym did.moved) (next_on t n (length values) (length c.args.c.now) laid into upper grown j below next nx); below = (walk.ensures.below, omega (arith, did.counts, all, c.requires.in_bounds.2)); works = works t n (length values) (length c.args.c.now) laid into upper grown j below next nx unit-starts d-starts places
-            (length diag) (length d) (length c.args.qj.now) (length c.args.qi.now)
-            c.requires.diagonal_laid c.requires.placed.0 c.requires.placed.2 c.requires.in_bounds.0 c.requires.in_bounds.1
-            values diag d cache c.args.c.now call.new.c c.args.count call.result call.new.next did }
+    c.requires.diagonal_laid c.requires.placed.0 c.requires.placed.2 c.requires.in_bounds.0 c.requires.in_bounds.1 short c.requires.grown.liu.pattern.few in record {
+      next_2 = subst (Next t n (j + 1)) (sym did.moved) (next_on t n (length values) (length c.args.c.now) laid into upper grown j below next nx);
+      below = (walk.ensures.below, omega (arith, did.counts, all, c.requires.in_bounds.2));
+      works = works t n (length values) (length c.args.c.now) laid into upper grown j below next nx unit-starts d-starts places
+          (length diag) (length d) (length c.args.qj.now) (length c.args.qi.now)
+          c.requires.diagonal_laid c.requires.placed.0 c.requires.placed.2 c.requires.in_bounds.0 c.requires.in_bounds.1
+          values diag d cache c.args.c.now call.new.c c.args.count call.result call.new.next did;
+    }
