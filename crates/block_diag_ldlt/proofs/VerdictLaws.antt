@@ -1,51 +1,57 @@
 -- What is refused, and what the answer is then. Assumes nothing.
-use Rattle.std.specs.Prelude.{◌≡◌, ℕ, ◌*◌, ◌<◌, ◌≤◌, true, false, List, length}
-use mathlib.Core.Path.{refl}
-use native.Mathlib.Omega.{arith}
+use Rattle.std.specs.Prelude.{◌≡◌, ℕ, true, List, length, Result, Ok, Err, IsErrAnd}
+use mathlib.Core.Path.{refl, sym, ap, ◌∙◌}
 use lib.Ieee.{Float}
-use Rattle.scalar.specs.Scalar.{is_tolerance}
-use Rattle.refusal.specs.Refusal.{Told, bad_dimension, bad_tolerance, shapes_disagree, refuses}
-use Rattle.refusal.proofs.Laws.{size_small, size-large, size_fits, area-differs, area-fits}
-use Rattle.block_diag_ldlt.specs.Block.{decompose_verdict, block_ldlt, told_settled, decomposed}
+use Rattle.refusal.specs.Refusal.{Told, first_of, refuses, number, number_by}
+use Rattle.refusal.specs.declared.ShapeError.{ShapeError}
+use Rattle.refusal.specs.declared.ShapeError.TheVariants as shape
+use Rattle.refusal.specs.Shaped as shaped
+use Rattle.refusal.proofs.Laws.{after_done}
+use Rattle.dense_pivots.specs.declared.LdltResult.{LdltResult}
+use Rattle.block_diag_ldlt.specs.declared.DecomposeError.{DecomposeError}
+use Rattle.block_diag_ldlt.specs.declared.DecomposeError.TheVariants.{Dimension, Tolerance, Mismatch, NotFinite, Poor}
+use Rattle.block_diag_ldlt.specs.Block.{told, told_error, told_checks, of_shape, decompose_verdict, block_ldlt, told_settled, decomposed}
 
-module _ (n : ℕ) (a l d : List Float) (tol : Float) where
-  refused_as : (v : Told) → refuses v ≡ true → decompose_verdict n tol (length a) (length l) (length d) ≡ v → (v, l, d) ≡ decomposed n a l d tol
+-- ---- one check after the other, each by `?`
+
+pub of_shape-told : (e : ShapeError) → shaped.told_error e ≡ told_error (of_shape e)
+of_shape-told (shape.Dimension place) = refl
+of_shape-told (shape.Mismatch place) = refl
+
+error-refuses : (e : DecomposeError) → refuses (told_error e) ≡ true
+error-refuses (Dimension place) = refl
+error-refuses Tolerance = refl
+error-refuses (Mismatch place) = refl
+error-refuses (NotFinite place pivot) = refl
+error-refuses (Poor condition) = refl
+
+pub after_error : (e : DecomposeError) (next : Told) → first_of (told_error e) next ≡ told_error e
+after_error (Dimension place) next = refl
+after_error Tolerance next = refl
+after_error (Mismatch place) next = refl
+after_error (NotFinite place pivot) next = refl
+after_error (Poor condition) next = refl
+
+pub ruleset in_order = (of_shape-told, after_error, after_done)
+
+-- what `?` hands back is told as its error
+pub err-told : (s : Result LdltResult DecomposeError) (e : DecomposeError) → IsErrAnd s (λ x. x ≡ e) → told s ≡ told_error e
+err-told (Ok k) e h = absurd h
+err-told (Err x) e h = ap told_error h
+
+-- the number of an answer is that of what it tells
+pub number-told : (r : Result LdltResult DecomposeError) → number_by told_error r ≡ number (told r)
+number-told (Ok k) = refl
+number-told (Err e) = refl
+
+-- ---- the promise of a decomposition whose checks answered r
+
+module _ (n : ℕ) (a l d : List Float) (tol : Float) (r : Result Unit DecomposeError)
+    (says : told_checks r ≡ decompose_verdict n tol (length a) (length l) (length d)) where
+  pub refused : (e : DecomposeError) → r ≡ Err e → (told_error e, l, d) ≡ decomposed n a l d tol
   unfolding decomposed
-  refused_as v r e = rw (e, r)
+  refused e is = rw (sym says ∙ ap told_checks is, error-refuses e)
 
-  pub too_small : n < 1 → (bad_dimension 0, l, d) ≡ decomposed n a l d tol
-  unfolding decompose_verdict
-  too_small h = refused_as _ refl (rw (size_small 1 0 n h))
-
-  pub too_large : 16 < n → (bad_dimension 0, l, d) ≡ decomposed n a l d tol
-  unfolding decompose_verdict
-  too_large h = refused_as _ refl (rw (size-large 1 0 n (omega arith) h))
-
-  module _ (positive : 1 ≤ n) (small : n ≤ 16) where
-    pub bad-tolerance : is_tolerance tol ≡ false → (bad_tolerance, l, d) ≡ decomposed n a l d tol
-    unfolding decompose_verdict
-    bad-tolerance t = refused_as _ refl (rw (size_fits 1 0 n positive small, t))
-
-    module _ (tolerable : is_tolerance tol ≡ true) where
-      pub other_block : (length a ≡ n * n → ⊥) → (shapes_disagree 0, l, d) ≡ decomposed n a l d tol
-      unfolding decompose_verdict
-      other_block h = refused_as _ refl (rw (size_fits 1 0 n positive small, tolerable, area-differs 0 n n (length a) h))
-
-      module _ (block : length a ≡ n * n) where
-        pub other-factor : (length l ≡ n * n → ⊥) → (shapes_disagree 1, l, d) ≡ decomposed n a l d tol
-        unfolding decompose_verdict
-        other-factor h =
-            refused_as _ refl
-            (rw (size_fits 1 0 n positive small, tolerable, area-fits 0 n n (length a) block, area-differs 1 n n (length l) h))
-
-        module _ (factor : length l ≡ n * n) where
-          pub other-d : (length d ≡ n → ⊥) → (shapes_disagree 2, l, d) ≡ decomposed n a l d tol
-          unfolding decompose_verdict
-          other-d h =
-              refused_as _ refl
-              (rw (size_fits 1 0 n positive small, tolerable, area-fits 0 n n (length a) block, area-fits 1 n n (length l) factor, area-differs 2 n 1 (length d) (λ k. h (omega arith))))
-
-          pub passes : length d ≡ n → told_settled (block_ldlt n tol a) ≡ decomposed n a l d tol
-          unfolding decomposed decompose_verdict
-          passes k =
-              rw (size_fits 1 0 n positive small, tolerable, area-fits 0 n n (length a) block, area-fits 1 n n (length l) factor, area-fits 2 n 1 (length d) (omega arith))
+  pub passes : (w : Unit) → r ≡ Ok w → told_settled (block_ldlt n tol a) ≡ decomposed n a l d tol
+  unfolding decomposed
+  passes w is = rw (sym says ∙ ap told_checks is)

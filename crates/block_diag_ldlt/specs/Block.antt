@@ -1,31 +1,43 @@
 -- One block of the diagonal: module 6 of document 01, without the fallback. Assumes nothing.
 use Rattle.std.specs.Prelude.{ℕ, ◌*◌, Bool, false, cond, List, [], ◌∷◌, length, from_bits}
-use Rattle.std.specs.Prelude.{Float}
+use Rattle.std.specs.Prelude.{Float, Result, Ok, Err}
 use Rattle.std.specs.Float.{binary64}
 use Rattle.std.specs.Float.Ieee.{lt}
 use Rattle.scalar.specs.Block.{nans}
-use Rattle.refusal.specs.Refusal.{Told, verdict, refuses, bad_dimension, bad_tolerance, shapes_disagree, pivot_not_finite, poorly_conditioned}
+use Rattle.refusal.specs.Refusal.{Told, done, told_by, verdict, refuses, bad_dimension, bad_tolerance, shapes_disagree, pivot_not_finite, poorly_conditioned}
 use Rattle.refusal.specs.Check.{size_check, tolerance_check, area_check}
 use Rattle.dense_pivots.specs.Pivots.{told_result}
 use Rattle.dense_ldlt.specs.Ldlt.{ldlt}
 use Rattle.dense_pivots.specs.declared.Definiteness.{Definiteness}
 use Rattle.dense_pivots.specs.declared.Definiteness.TheVariants.{PositiveDefinite, PositiveSemiDefinite, Indefinite}
 use Rattle.dense_pivots.specs.declared.LdltResult.{LdltResult}
-use Rattle.dense_ldlt.specs.declared.cores.Factored.{Factored}
-use Rattle.dense_ldlt.specs.declared.cores.Factored.TheVariants as factored
+use Rattle.dense_ldlt.specs.declared.cores.NotFinite as cores
 use Rattle.block_diag_ldlt.specs.declared.cores.Settled.{Settled}
 use Rattle.block_diag_ldlt.specs.declared.cores.Settled.TheVariants as settled
-use Rattle.block_diag_ldlt.specs.declared.Decomposed.{Decomposed}
-use Rattle.block_diag_ldlt.specs.declared.Decomposed.TheVariants.{Accepted, Dimension, Tolerance, Mismatch, NotFinite, Poor}
+use Rattle.refusal.specs.declared.ShapeError.{ShapeError}
+use Rattle.refusal.specs.declared.ShapeError.TheVariants as shape
+use Rattle.block_diag_ldlt.specs.declared.DecomposeError.{DecomposeError}
+use Rattle.block_diag_ldlt.specs.declared.DecomposeError.TheVariants.{Dimension, Tolerance, Mismatch, NotFinite, Poor}
 
--- document 01's number and values for each case; a call on one block names it 0
-abbrev pub told : Decomposed → Told
-told (Accepted r) = told_result r
-told (Dimension place) = bad_dimension place
-told Tolerance = bad_tolerance
-told (Mismatch place) = shapes_disagree place
-told (NotFinite place pivot) = pivot_not_finite 0 place pivot
-told (Poor condition) = poorly_conditioned 0 condition
+-- document 01's number and values for each refusal; a call on one block names it 0
+abbrev pub told_error : DecomposeError → Told
+told_error (Dimension place) = bad_dimension place
+told_error Tolerance = bad_tolerance
+told_error (Mismatch place) = shapes_disagree place
+told_error (NotFinite place pivot) = pivot_not_finite 0 place pivot
+told_error (Poor condition) = poorly_conditioned 0 condition
+
+abbrev pub told : Result LdltResult DecomposeError → Told
+told = told_by told_result told_error
+
+-- the answer of the checks alone
+abbrev pub told_checks : Result Unit DecomposeError → Told
+told_checks = told_by (λ w. done) told_error
+
+-- a refusal of a check of the shapes
+abbrev pub of_shape : ShapeError → DecomposeError
+of_shape (shape.Dimension place) = Dimension place
+of_shape (shape.Mismatch place) = Mismatch place
 
 -- the number 1e-10
 abbrev pub threshold : Float
@@ -41,9 +53,9 @@ abbrev pub is_poor : LdltResult → Bool
 is_poor r = poor_at r.definiteness r.pivot_condition
 
 -- how the decomposition of n rows settles, the factor and d: spoilt where the block is poor
-abbrev pub settle : ℕ → Factored × List Float × List Float → Settled × List Float × List Float
-settle n (factored.Accepted r, l, d) = cond (is_poor r) (settled.Poor r.pivot_condition, nans (n * n), nans n) (settled.Accepted r, l, d)
-settle n (factored.NotFinite place pivot, l, d) = (settled.NotFinite place pivot, l, d)
+abbrev pub settle : ℕ → Result LdltResult cores.NotFinite × List Float × List Float → Settled × List Float × List Float
+settle n (Ok r, l, d) = cond (is_poor r) (settled.Poor r.pivot_condition, nans (n * n), nans n) (settled.Accepted r, l, d)
+settle n (Err e, l, d) = (settled.NotFinite e.place e.pivot, l, d)
 
 -- the answer, the factor and d: after 13 and 14 NaNs in full
 unfoldable pub block_ldlt : ℕ → Float → List Float → Settled × List Float × List Float

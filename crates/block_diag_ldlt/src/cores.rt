@@ -2,7 +2,7 @@
 ghost use Rattle.std.specs.Prelude.{◌≡◌, ◌*◌, length};
 ghost use Rattle.block_diag_ldlt.specs.Block.{is_poor, block_ldlt};
 
-use dense_ldlt::cores::{Factored, ldlt_decompose_core};
+use dense_ldlt::cores::ldlt_decompose_core;
 use dense_pivots::{Definiteness, LdltResult};
 use scalar::blank;
 use scalar::cores::copy;
@@ -23,7 +23,7 @@ pub fn decompose_core(n: usize, a: &[f64], l: &mut [f64], d: &mut [f64], tol: f6
     copy(a, l);
     let r = ldlt_decompose_core(n, l, d, tol);
     match r {
-        Factored::Accepted(k) => {
+        Ok(k) => {
             if is_poor(k) {
                 blank(l);
                 blank(d);
@@ -33,7 +33,10 @@ pub fn decompose_core(n: usize, a: &[f64], l: &mut [f64], d: &mut [f64], tol: f6
             }
             Settled::Accepted(k)
         }
-        Factored::NotFinite { place, pivot } => Settled::NotFinite { place, pivot },
+        Err(e) => Settled::NotFinite {
+            place: e.place,
+            pivot: e.pivot,
+        },
     }
 }
 

@@ -23,10 +23,10 @@ map-replicate f zero a = refl
 map-replicate {B = B} f (suc n) a = ap {B = List B} (λ r. f a ∷ r) (map-replicate f n a)
 
 -- a place of the list does not ask the default
-pub get_d_any : {A : Type 0} (l : List A) (i : ℕ) (d e : A) → i < length l → get_or l i d ≡ get_or l i e
-get_d_any [] i d e h = absurd (omega arith)
-get_d_any (x ∷ l) zero d e h = refl
-get_d_any (x ∷ l) (suc i) d e h = get_d_any l i d e (omega arith)
+pub get_or_any : {A : Type 0} (l : List A) (i : ℕ) (d e : A) → i < length l → get_or l i d ≡ get_or l i e
+get_or_any [] i d e h = absurd (omega arith)
+get_or_any (x ∷ l) zero d e h = refl
+get_or_any (x ∷ l) (suc i) d e h = get_or_any l i d e (omega arith)
 
 -- ---- runs of numbers, filtered
 

@@ -3,16 +3,14 @@
 #![tactic(auto)]
 
 ghost use Rattle.std.specs.Prelude.{◌≡◌, length};
-ghost use Rattle.refusal.specs.Refusal.{number};
 ghost use Rattle.dense_ldlt.specs.Decompose as dense;
 ghost use Rattle.block_diag_ldlt.specs.Block as block;
-ghost use Rattle.refusal.specs.Shaped as shaped;
 ghost use Rattle.dense_solve.specs.Solve.{ldlt_solve, ldlt_matsolve, solve_verdict, matsolve_verdict};
 ghost use Rattle.dense_solve_right.specs.SolveRight.{ldlt_right_matsolve, right_verdict};
 ghost use Rattle.kernel_product.specs.Product.{sub_mat_diag_mat_t, product_verdict};
 ghost use Rattle.c_abi.specs.Number.{numbered, Numbers};
 
-use refusal::Shaped;
+use refusal::number_of;
 
 // A of n rows and columns becomes L, and d the diagonal of D: `dense_ldlt::ldlt_decompose_inplace`.
 #[unsafe(no_mangle)]
@@ -24,7 +22,7 @@ pub extern "C" fn beyqaloosh_ldlt_decompose_inplace(
 ) -> u32
     ensures { (result, mat_a_lower.new, mat_d.new) ≡ numbered (dense.decomposed n mat_a_lower.old mat_d.old rel_tol) }
 {
-    dense_number(dense_ldlt::ldlt_decompose_inplace(n, mat_a_lower, mat_d, rel_tol))
+    number_of(&dense_ldlt::ldlt_decompose_inplace(n, mat_a_lower, mat_d, rel_tol))
 }
 
 // The factor mat_l and d become those of the block mat_a: `block_diag_ldlt::decompose`.
@@ -38,7 +36,7 @@ pub extern "C" fn beyqaloosh_decompose(
 ) -> u32
     ensures { (result, mat_l.new, d.new) ≡ numbered (block.decomposed n mat_a.now mat_l.old d.old tol_rel) }
 {
-    block_number(block_diag_ldlt::decompose(n, mat_a, mat_l, d, tol_rel))
+    number_of(&block_diag_ldlt::decompose(n, mat_a, mat_l, d, tol_rel))
 }
 
 // x := A⁻¹ x: `dense_solve::ldlt_solve_inplace`.
@@ -51,7 +49,7 @@ pub extern "C" fn beyqaloosh_ldlt_solve_inplace(
 ) -> u32
     ensures { Numbers (solve_verdict 0 n (length mat_l.now) (length mat_d.now) (length x.old)) x.old (ldlt_solve n mat_l.now mat_d.now x.old) result x.new }
 {
-    shaped_number(dense_solve::ldlt_solve_inplace(n, mat_l, mat_d, x))
+    number_of(&dense_solve::ldlt_solve_inplace(n, mat_l, mat_d, x))
 }
 
 // X := A⁻¹ X: `dense_solve::ldlt_matsolve_inplace`.
@@ -65,7 +63,7 @@ pub extern "C" fn beyqaloosh_ldlt_matsolve_inplace(
 ) -> u32
     ensures { Numbers (matsolve_verdict n nrhs (length mat_l.now) (length mat_d.now) (length mat_x.old)) mat_x.old (ldlt_matsolve n nrhs mat_l.now mat_d.now mat_x.old) result mat_x.new }
 {
-    shaped_number(dense_solve::ldlt_matsolve_inplace(n, nrhs, mat_l, mat_d, mat_x))
+    number_of(&dense_solve::ldlt_matsolve_inplace(n, nrhs, mat_l, mat_d, mat_x))
 }
 
 // X := X A⁻¹: `dense_solve_right::ldlt_right_matsolve_inplace`.
@@ -79,7 +77,7 @@ pub extern "C" fn beyqaloosh_ldlt_right_matsolve_inplace(
 ) -> u32
     ensures { Numbers (right_verdict 0 m n (length ld.now) (length d.now) (length x.old)) x.old (ldlt_right_matsolve m n ld.now d.now x.old) result x.new }
 {
-    shaped_number(dense_solve_right::ldlt_right_matsolve_inplace(m, n, ld, d, x))
+    number_of(&dense_solve_right::ldlt_right_matsolve_inplace(m, n, ld, d, x))
 }
 
 // y := A⁻¹ y, for one block of a diagonal: `block_diag_solve::solve_inplace_vec`.
@@ -92,7 +90,7 @@ pub extern "C" fn beyqaloosh_solve_inplace_vec(
 ) -> u32
     ensures { Numbers (solve_verdict 1 n (length mat_l.now) (length d.now) (length y.old)) y.old (ldlt_solve n mat_l.now d.now y.old) result y.new }
 {
-    shaped_number(block_diag_solve::solve_inplace_vec(n, mat_l, d, y))
+    number_of(&block_diag_solve::solve_inplace_vec(n, mat_l, d, y))
 }
 
 // X := X A⁻¹, for one block of a diagonal: `block_diag_solve::right_solve_inplace`.
@@ -106,7 +104,7 @@ pub extern "C" fn beyqaloosh_right_solve_inplace(
 ) -> u32
     ensures { Numbers (right_verdict 1 m n (length mat_l.now) (length d.now) (length x.old)) x.old (ldlt_right_matsolve m n mat_l.now d.now x.old) result x.new }
 {
-    shaped_number(block_diag_solve::right_solve_inplace(m, n, mat_l, d, x))
+    number_of(&block_diag_solve::right_solve_inplace(m, n, mat_l, d, x))
 }
 
 // Y := Y - A diag(d) Bᵀ: `kernel_product::sub_mat_diag_mat_t_inplace`.
@@ -122,40 +120,5 @@ pub extern "C" fn beyqaloosh_sub_mat_diag_mat_t_inplace(
 ) -> u32
     ensures { Numbers (product_verdict m n k (length y.old) (length mat_a.now) (length d.now) (length mat_b.now)) y.old (sub_mat_diag_mat_t m n k y.old mat_a.now d.now mat_b.now) result y.new }
 {
-    shaped_number(kernel_product::sub_mat_diag_mat_t_inplace(m, n, k, y, mat_a, d, mat_b))
-}
-
-fn shaped_number(o: Shaped) -> u32
-    ensures { result ≡ number (shaped.told o) }
-{
-    match o {
-        Shaped::Accepted(_) => 0,
-        Shaped::Dimension { place: _ } => 2,
-        Shaped::Mismatch { place: _ } => 12,
-    }
-}
-
-fn dense_number(o: dense_ldlt::Decomposed) -> u32
-    ensures { result ≡ number (dense.told o) }
-{
-    match o {
-        dense_ldlt::Decomposed::Accepted(_) => 0,
-        dense_ldlt::Decomposed::Dimension { place: _ } => 2,
-        dense_ldlt::Decomposed::Tolerance => 10,
-        dense_ldlt::Decomposed::Mismatch { place: _ } => 12,
-        dense_ldlt::Decomposed::NotFinite { place: _, pivot: _ } => 13,
-    }
-}
-
-fn block_number(o: block_diag_ldlt::Decomposed) -> u32
-    ensures { result ≡ number (block.told o) }
-{
-    match o {
-        block_diag_ldlt::Decomposed::Accepted(_) => 0,
-        block_diag_ldlt::Decomposed::Dimension { place: _ } => 2,
-        block_diag_ldlt::Decomposed::Tolerance => 10,
-        block_diag_ldlt::Decomposed::Mismatch { place: _ } => 12,
-        block_diag_ldlt::Decomposed::NotFinite { place: _, pivot: _ } => 13,
-        block_diag_ldlt::Decomposed::Poor { condition: _ } => 14,
-    }
+    number_of(&kernel_product::sub_mat_diag_mat_t_inplace(m, n, k, y, mat_a, d, mat_b))
 }

@@ -5,10 +5,10 @@
 
 ghost use Rattle.std.specs.Prelude.{◌≡◌};
 ghost use Rattle.tables.specs.Verdict.{system_verdict, plan_verdict, factor_verdict};
-ghost use Rattle.checks.specs.Outcome.{told_system, told_plan, told_factor};
+ghost use Rattle.checks.specs.Outcome.{told_system, told_plan, told_factor, told_system_error, told_plan_error, told_factor_error};
 
 use columns::cores::{Least, first_fall, first_row, total_area};
-use refusal::Worked;
+use refusal::Refusal;
 use scalar::is_tolerance;
 use tables::cores::{first_dim, first_late, first_perm, first_start};
 
@@ -17,10 +17,9 @@ pub const MAX_BLOCKS: usize = 4096;
 
 pub const MAX_STORED: usize = 65536;
 
-// The outcome of a check of A's tables, the permutation, the late flags and the tolerance.
-#[derive(Clone, Copy)]
-pub enum System {
-    Accepted(Worked),
+// The refusals of a check of A's tables, the permutation, the late flags and the tolerance.
+#[derive(Clone, Copy, Debug, PartialEq, Eq)]
+pub enum SystemError {
     // 1
     Blocks,
     // 2: the block.
@@ -43,10 +42,28 @@ pub enum System {
     Tolerance,
 }
 
-// The outcome of a check of A's tables without its values, the permutation and the late flags; places as above.
-#[derive(Clone, Copy)]
-pub enum PlanTables {
-    Accepted(Worked),
+impl Refusal for SystemError {
+    ghost told = { told_system_error };
+
+    fn number(&self) -> u32 {
+        match self {
+            SystemError::Blocks => 1,
+            SystemError::Dimension { place: _ } => 2,
+            SystemError::Starts { place: _ } => 3,
+            SystemError::Stored => 4,
+            SystemError::Row { place: _ } => 5,
+            SystemError::Order { place: _ } => 6,
+            SystemError::Values => 7,
+            SystemError::Permutation { place: _ } => 8,
+            SystemError::Late { place: _ } => 9,
+            SystemError::Tolerance => 10,
+        }
+    }
+}
+
+// The refusals of a check of A's tables without its values, the permutation and the late flags; places as above.
+#[derive(Clone, Copy, Debug, PartialEq, Eq)]
+pub enum PlanTablesError {
     // 1
     Blocks,
     // 2
@@ -65,10 +82,26 @@ pub enum PlanTables {
     Late { place: usize },
 }
 
-// The outcome of a check of a factor's tables; places as above.
-#[derive(Clone, Copy)]
-pub enum Factor {
-    Accepted(Worked),
+impl Refusal for PlanTablesError {
+    ghost told = { told_plan_error };
+
+    fn number(&self) -> u32 {
+        match self {
+            PlanTablesError::Blocks => 1,
+            PlanTablesError::Dimension { place: _ } => 2,
+            PlanTablesError::Starts { place: _ } => 3,
+            PlanTablesError::Stored => 4,
+            PlanTablesError::Row { place: _ } => 5,
+            PlanTablesError::Order { place: _ } => 6,
+            PlanTablesError::Permutation { place: _ } => 8,
+            PlanTablesError::Late { place: _ } => 9,
+        }
+    }
+}
+
+// The refusals of a check of a factor's tables; places as above.
+#[derive(Clone, Copy, Debug, PartialEq, Eq)]
+pub enum FactorError {
     // 1
     Blocks,
     // 2
@@ -83,7 +116,23 @@ pub enum Factor {
     Values,
 }
 
+impl Refusal for FactorError {
+    ghost told = { told_factor_error };
+
+    fn number(&self) -> u32 {
+        match self {
+            FactorError::Blocks => 1,
+            FactorError::Dimension { place: _ } => 2,
+            FactorError::Starts { place: _ } => 3,
+            FactorError::Row { place: _ } => 5,
+            FactorError::Order { place: _ } => 6,
+            FactorError::Values => 7,
+        }
+    }
+}
+
 // The tables of A, whose column j stores rows j and beyond, with the permutation, the late flags and the tolerance.
+#[tactic(auto, using(crate::proofs::SystemLaws::system_laws))]
 pub fn check_system(
     dims: &[u32],
     starts: &[u32],
@@ -92,124 +141,115 @@ pub fn check_system(
     perm: &[u32],
     late: &[u32],
     tol: f64,
-) -> System
+) -> Result<(), SystemError>
     ensures { told_system result ≡ system_verdict dims.now starts.now rows.now values.now perm.now late.now tol }
 {
     let n = dims.len();
     if n > MAX_BLOCKS {
-        return System::Blocks;
+        return Err(SystemError::Blocks);
     }
-    let k2 = first_dim(dims);
-    if k2 < n {
-        return System::Dimension { place: k2 };
+    if let Some(place) = first_dim(dims) {
+        return Err(SystemError::Dimension { place });
     }
     let m = rows.len();
-    let k3 = first_start(starts, n, m);
-    if k3 < n + 2 {
-        return System::Starts { place: k3 };
+    if let Some(place) = first_start(starts, n, m) {
+        return Err(SystemError::Starts { place });
     }
     if m > MAX_STORED {
-        return System::Stored;
+        return Err(SystemError::Stored);
     }
-    let k5 = first_row(starts, rows, n, Least::Diagonal);
-    if k5 < m {
-        return System::Row { place: k5 };
+    if let Some(place) = first_row(starts, rows, n, Least::Diagonal) {
+        return Err(SystemError::Row { place });
     }
-    let k6 = first_fall(starts, rows, n);
-    if k6 < m {
-        return System::Order { place: k6 };
+    if let Some(place) = first_fall(starts, rows, n) {
+        return Err(SystemError::Order { place });
     }
     let need = total_area(dims, starts, rows);
     if values.len() != need {
-        return System::Values;
+        return Err(SystemError::Values);
     }
-    let k8 = first_perm(perm, n);
-    if k8 < n + 1 {
-        return System::Permutation { place: k8 };
+    if let Some(place) = first_perm(perm, n) {
+        return Err(SystemError::Permutation { place });
     }
-    let k9 = first_late(late, n);
-    if k9 < n + 1 {
-        return System::Late { place: k9 };
+    if let Some(place) = first_late(late, n) {
+        return Err(SystemError::Late { place });
     }
     if !is_tolerance(tol) {
-        return System::Tolerance;
+        return Err(SystemError::Tolerance);
     }
-    System::Accepted(Worked {})
+    Ok(())
 }
 
 // What a plan is made from: A's tables without its values, the permutation and the late flags.
+#[tactic(auto, using(crate::proofs::PlanLaws::plan_laws))]
 pub fn check_plan(
     dims: &[u32],
     starts: &[u32],
     rows: &[u32],
     perm: &[u32],
     late: &[u32],
-) -> PlanTables
+) -> Result<(), PlanTablesError>
     ensures { told_plan result ≡ plan_verdict dims.now starts.now rows.now perm.now late.now }
 {
     let n = dims.len();
     if n > MAX_BLOCKS {
-        return PlanTables::Blocks;
+        return Err(PlanTablesError::Blocks);
     }
-    let k2 = first_dim(dims);
-    if k2 < n {
-        return PlanTables::Dimension { place: k2 };
+    if let Some(place) = first_dim(dims) {
+        return Err(PlanTablesError::Dimension { place });
     }
     let m = rows.len();
-    let k3 = first_start(starts, n, m);
-    if k3 < n + 2 {
-        return PlanTables::Starts { place: k3 };
+    if let Some(place) = first_start(starts, n, m) {
+        return Err(PlanTablesError::Starts { place });
     }
     if m > MAX_STORED {
-        return PlanTables::Stored;
+        return Err(PlanTablesError::Stored);
     }
-    let k5 = first_row(starts, rows, n, Least::Diagonal);
-    if k5 < m {
-        return PlanTables::Row { place: k5 };
+    if let Some(place) = first_row(starts, rows, n, Least::Diagonal) {
+        return Err(PlanTablesError::Row { place });
     }
-    let k6 = first_fall(starts, rows, n);
-    if k6 < m {
-        return PlanTables::Order { place: k6 };
+    if let Some(place) = first_fall(starts, rows, n) {
+        return Err(PlanTablesError::Order { place });
     }
-    let k8 = first_perm(perm, n);
-    if k8 < n + 1 {
-        return PlanTables::Permutation { place: k8 };
+    if let Some(place) = first_perm(perm, n) {
+        return Err(PlanTablesError::Permutation { place });
     }
-    let k9 = first_late(late, n);
-    if k9 < n + 1 {
-        return PlanTables::Late { place: k9 };
+    if let Some(place) = first_late(late, n) {
+        return Err(PlanTablesError::Late { place });
     }
-    PlanTables::Accepted(Worked {})
+    Ok(())
 }
 
 // The tables of a factor, whose column j stores rows past j.
-pub fn check_factor(dims: &[u32], starts: &[u32], rows: &[u32], values: &[f64]) -> Factor
+#[tactic(auto, using(crate::proofs::FactorLaws::factor_laws))]
+pub fn check_factor(
+    dims: &[u32],
+    starts: &[u32],
+    rows: &[u32],
+    values: &[f64],
+) -> Result<(), FactorError>
     ensures { told_factor result ≡ factor_verdict dims.now starts.now rows.now values.now }
 {
     let n = dims.len();
     if n > MAX_BLOCKS {
-        return Factor::Blocks;
+        return Err(FactorError::Blocks);
     }
-    let k2 = first_dim(dims);
-    if k2 < n {
-        return Factor::Dimension { place: k2 };
+    if let Some(place) = first_dim(dims) {
+        return Err(FactorError::Dimension { place });
     }
     let m = rows.len();
-    let k3 = first_start(starts, n, m);
-    if k3 < n + 2 {
-        return Factor::Starts { place: k3 };
+    if let Some(place) = first_start(starts, n, m) {
+        return Err(FactorError::Starts { place });
     }
-    let k5 = first_row(starts, rows, n, Least::PastDiagonal);
-    if k5 < m {
-        return Factor::Row { place: k5 };
+    if let Some(place) = first_row(starts, rows, n, Least::PastDiagonal) {
+        return Err(FactorError::Row { place });
     }
-    let k6 = first_fall(starts, rows, n);
-    if k6 < m {
-        return Factor::Order { place: k6 };
+    if let Some(place) = first_fall(starts, rows, n) {
+        return Err(FactorError::Order { place });
     }
     let need = total_area(dims, starts, rows);
     if values.len() != need {
-        return Factor::Values;
+        return Err(FactorError::Values);
     }
-    Factor::Accepted(Worked {})
+    Ok(())
 }

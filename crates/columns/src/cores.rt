@@ -1,10 +1,9 @@
 // The searches over the row table, whose columns the starts give, that the checks of tables are made of. How one is made:
-//   NAME_ok         one place: its test in `Verdict` of tables
-//   first_NAME_in   the loop over the places of one column
-//   first_NAME      the loop over the columns: the first place at which the test fails, and the end where there is none
-ghost use Rattle.std.specs.Prelude.{◌≡◌, ℕ, ◌+◌, ◌<◌, ◌≤◌, length};
-ghost use Rattle.tables.specs.Search.{first, sum};
-ghost use Rattle.tables.specs.Verdict.{at, row_ok, row_fits, order_ok, order_fits, block_area, areas};
+//   NAME_ok      one place: its test in `Verdict` of tables
+//   first_NAME   the first place at which the test of its column fails, if there is one
+ghost use Rattle.std.specs.Prelude.{◌≡◌, ℕ, Bool, ◌+◌, ◌<◌, ◌≤◌, length};
+ghost use Rattle.tables.specs.Search.{fault, sum};
+ghost use Rattle.tables.specs.Verdict.{at, column_of, row_ok, row_fits, order_ok, order_fits, block_area, areas};
 ghost use Rattle.tables.specs.Sound.{Sizes, Ordered, Measured};
 ghost use Rattle.columns.specs.Least.{least_row};
 
@@ -39,38 +38,38 @@ pub fn row_ok(rows: &[u32], n: usize, from: usize, p: usize) -> bool
     from <= x && x < n
 }
 
-// The first place in lo..hi, a column, whose row is not in from..n.
-pub fn first_row_in(rows: &[u32], n: usize, from: usize, lo: usize, hi: usize) -> usize
-    requires { (lo ≤ hi) × (hi ≤ length rows.now) }
-    ensures { result ≡ first (row_ok rows.now n from) lo hi }
+// The first place in the columns at which the test of its column fails: the test is told the column, its start and the place.
+pub fn first_in_columns<P: Fn(usize, usize, usize) -> bool>(
+    starts: &[u32],
+    n: usize,
+    passes: P,
+) -> Option<usize>
+    requires entries { length starts.now ≡ n + 1 }
+    requires asks { (j p : ℕ) → j < n → at starts.now j ≤ p → p < at starts.now (j + 1) → P.pre passes j (at starts.now j) p }
+    ensures { (m : ℕ) (test : ℕ → ℕ → Bool) → Ordered starts.now n m → ((j p : ℕ) (b : Bool) → j < n → at starts.now j ≤ p → p < at starts.now (j + 1) → P.post passes j (at starts.now j) p b → b ≡ test j p) → result ≡ fault (λ p. test (column_of starts.now n p) p) 0 m }
 {
-    let mut i = lo;
-    while i < hi {
-        if !row_ok(rows, n, from, i) {
-            return i;
+    for j in 0..n {
+        let lo = wide(starts[j]);
+        let hi = wide(starts[j + 1]);
+        for p in lo..hi {
+            if !passes(j, lo, p) {
+                return Some(p);
+            }
         }
-        i += 1;
     }
-    i
+    None
 }
 
 // 5: the first place whose row is out of the range of its column.
-pub fn first_row(starts: &[u32], rows: &[u32], n: usize, least: Least) -> usize
+pub fn first_row(starts: &[u32], rows: &[u32], n: usize, least: Least) -> Option<usize>
     requires { (n ≤ 4096) × Ordered starts.now n (length rows.now) }
-    ensures { result ≡ first (row_fits (least_row least) starts.now rows.now n) 0 (length rows.now) }
+    ensures { result ≡ fault (row_fits (least_row least) starts.now rows.now n) 0 (length rows.now) }
 {
-    let mut j: usize = 0;
-    while j < n {
-        let lo = wide(starts[j]);
-        let hi = wide(starts[j + 1]);
-        let from = least_row(least, j);
-        let p = first_row_in(rows, n, from, lo, hi);
-        if p < hi {
-            return p;
-        }
-        j += 1;
-    }
-    rows.len()
+    first_in_columns(
+        starts,
+        n,
+        |j, _lo, p| row_ok(rows, n, least_row(least, j), p),
+    )
 }
 
 // The row at place p is the first of its column, which starts at lo, or above the one before.
@@ -81,37 +80,12 @@ pub fn order_ok(rows: &[u32], lo: usize, p: usize) -> bool
     p <= lo || rows[p - 1] < rows[p]
 }
 
-// The first place in lo..hi, a column, whose row is not above the one before.
-pub fn first_fall_in(rows: &[u32], lo: usize, hi: usize) -> usize
-    requires { (lo ≤ hi) × (hi ≤ length rows.now) }
-    ensures { result ≡ first (order_ok rows.now lo) lo hi }
-{
-    let mut i = lo;
-    while i < hi {
-        if !order_ok(rows, lo, i) {
-            return i;
-        }
-        i += 1;
-    }
-    i
-}
-
 // 6: the first place whose row is not above the one before it in its column.
-pub fn first_fall(starts: &[u32], rows: &[u32], n: usize) -> usize
+pub fn first_fall(starts: &[u32], rows: &[u32], n: usize) -> Option<usize>
     requires { Ordered starts.now n (length rows.now) }
-    ensures { result ≡ first (order_fits starts.now rows.now n) 0 (length rows.now) }
+    ensures { result ≡ fault (order_fits starts.now rows.now n) 0 (length rows.now) }
 {
-    let mut j: usize = 0;
-    while j < n {
-        let lo = wide(starts[j]);
-        let hi = wide(starts[j + 1]);
-        let p = first_fall_in(rows, lo, hi);
-        if p < hi {
-            return p;
-        }
-        j += 1;
-    }
-    rows.len()
+    first_in_columns(starts, n, |_j, lo, p| order_ok(rows, lo, p))
 }
 
 // The area of the block at place p, in a column that is d wide.
@@ -129,10 +103,8 @@ pub fn column_area(dims: &[u32], rows: &[u32], d: usize, lo: usize, hi: usize) -
     ensures { result ≡ sum (block_area dims.now rows.now d) lo hi }
 {
     let mut s: usize = 0;
-    let mut i = lo;
-    while i < hi {
+    for i in lo..hi {
         s += block_area(dims, rows, d, i);
-        i += 1;
     }
     s
 }
@@ -143,13 +115,11 @@ pub fn total_area(dims: &[u32], starts: &[u32], rows: &[u32]) -> usize
     ensures { result ≡ areas dims.now starts.now rows.now }
 {
     let mut s: usize = 0;
-    let mut j: usize = 0;
-    while j < dims.len() {
+    for j in 0..dims.len() {
         let d = wide(dims[j]);
         let lo = wide(starts[j]);
         let hi = wide(starts[j + 1]);
         s += column_area(dims, rows, d, lo, hi);
-        j += 1;
     }
     s
 }

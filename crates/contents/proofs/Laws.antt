@@ -18,7 +18,7 @@ use lib.ListN.{length-map, get_or-map}
 use lib.Seq.{ext_get_or}
 use Rattle.graph.specs.Sets.{from}
 use Rattle.refusal.specs.Refusal.{Told, done, refuses, bad_starts, bad_sheet}
-use Rattle.buckets.proofs.Lists.{get_d_any}
+use Rattle.buckets.proofs.Lists.{get_or_any}
 use Rattle.order.proofs.Laws.{length_from, get_or-from}
 use Rattle.tables.specs.Search.{first, first_from}
 use Rattle.tables.specs.Verdict.{at, fault_in, rises_at, start_ok, starts_check, column_of, block_area, area_at}
@@ -28,6 +28,7 @@ use Rattle.tables.proofs.SearchLaws.{lt-or-ge, first-before, first-fails, first-
 use Rattle.tables.proofs.ColumnLaws.{column-is}
 use Rattle.tables.proofs.AreaLaws.{area-le}
 use Rattle.tables.proofs.CheckLaws.{starts-go}
+use Rattle.tables.proofs.FaultLaws as faults
 use Rattle.scalars.specs.Bodies.{offset_at}
 use Rattle.contents.specs.Contents.{column_fits, columns_check, before, start_at, starts_from, offset_fits, offsets_check, Sorted, Placed}
 
@@ -124,7 +125,7 @@ module _ (columns : List ℕ) (n : ℕ) where
   starts-at j h =
       let l = length-map {A = ℕ} {B = ℕ} (from 0 (n + 1)) (start_at columns) ∙ length_from 0 (n + 1) in
       let e : get_or (from 0 (n + 1)) j 0 ≡ j = get_or-from 0 (n + 1) j (omega arith) ∙ omega arith in
-      get_d_any (map {A = ℕ} {B = ℕ} (start_at columns) (from 0 (n + 1))) j 0 (start_at columns 0) (omega arith) ∙ get_or-map {A = ℕ} {B = ℕ} (start_at columns) (from 0 (n + 1)) j 0 ∙ ap (start_at columns) e
+      get_or_any (map {A = ℕ} {B = ℕ} (start_at columns) (from 0 (n + 1))) j 0 (start_at columns 0) (omega arith) ∙ get_or-map {A = ℕ} {B = ℕ} (start_at columns) (from 0 (n + 1)) j 0 ∙ ap (start_at columns) e
 
   pub starts-filled : (xs : List ℕ) → length xs ≡ n + 1 → ((j : ℕ) → j < n + 1 → at xs j ≡ start_at columns j) → xs ≡ starts_from columns n
   starts-filled xs l each =
@@ -210,10 +211,7 @@ module _ (starts : List ℕ) (n m : ℕ) (o : Ordered starts n m) where
       le-or-gt k = ⊎_elim (λ (g : n < k). inr g) (λ g. inl g) (lt-or-ge n k)
 
   pub starts-done : starts_check starts n m ≡ done
-  starts-done = starts-go starts n m (first (start_ok starts n m) 0 (n + 2)) refl (omega (arith, all))
-    where
-      all : first (start_ok starts n m) 0 (n + 2) ≡ n + 2
-      all = first_past (start_ok starts n m) 0 (n + 2) (n + 2) zero-le (omega arith) (λ k _ h. start-passes k h) ∙ first-end (start_ok starts n m) (n + 2) (n + 2) (omega arith)
+  starts-done = starts-go starts n m (faults.fault-none (start_ok starts n m) 0 (n + 2) (λ k _ h. start-passes k h))
 
 -- ---- the loops
 

@@ -1,6 +1,6 @@
 -- One row of the decomposition: what the code does with all of d is what the definition says of the d of the rows done. Assumes nothing.
 use Rattle.std.specs.Prelude.{◌≡◌, ℕ, ◌<◌, ◌≤◌, true, false, List, [], ◌∷◌, ◌++◌, get_or, take}
-use mathlib.Core.Path.{refl, sym, ap, ap₂, ◌∙◌}
+use mathlib.Core.Path.{sym, ap, ap₂, ◌∙◌}
 use native.Mathlib.Omega.{arith}
 use lib.Seq.{get_or-take}
 use lib.Ieee.{Float, nan, binary64, mul}

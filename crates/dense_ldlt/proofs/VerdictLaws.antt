@@ -1,39 +1,55 @@
 -- What is refused, and what the answer is then. Assumes nothing.
-use Rattle.std.specs.Prelude.{◌≡◌, ℕ, ◌*◌, ◌<◌, ◌≤◌, true, false, List, [], ◌∷◌, length}
-use mathlib.Core.Path.{refl, ◌∙◌}
-use native.Mathlib.Omega.{arith}
+use Rattle.std.specs.Prelude.{◌≡◌, ℕ, true, List, length, Result, Ok, Err, IsErrAnd}
+use mathlib.Core.Path.{refl, sym, ap, ◌∙◌}
 use lib.Ieee.{Float}
-use Rattle.scalar.specs.Scalar.{is_tolerance}
-use Rattle.refusal.specs.Refusal.{Told, done, bad_dimension, bad_tolerance, shapes_disagree, refuses, verdict}
-use Rattle.refusal.specs.Check.{size_check, tolerance_check, area_check}
-use Rattle.refusal.proofs.Laws.{verdict-stops, verdict-goes, size-large, size_fits, area-differs, area-fits}
+use Rattle.refusal.specs.Refusal.{Told, first_of, refuses, number, number_by}
+use Rattle.refusal.specs.declared.ShapeError.{ShapeError}
+use Rattle.refusal.specs.declared.ShapeError.TheVariants as shape
+use Rattle.refusal.specs.Shaped as shaped
+use Rattle.refusal.proofs.Laws.{after_done}
+use Rattle.dense_pivots.specs.declared.LdltResult.{LdltResult}
 use Rattle.dense_ldlt.specs.Ldlt.{ldlt}
-use Rattle.dense_ldlt.specs.Decompose.{decompose_verdict, told_factored, decomposed}
+use Rattle.dense_ldlt.specs.declared.LdltError.{LdltError}
+use Rattle.dense_ldlt.specs.declared.LdltError.TheVariants.{Dimension, Tolerance, Mismatch, NotFinite}
+use Rattle.dense_ldlt.specs.Decompose.{told, told_error, told_checks, of_shape, decompose_verdict, told_factored, decomposed}
 
-module _ (n : ℕ) (a d : List Float) (tol : Float) where
-  refused_as : (v : Told) → refuses v ≡ true → decompose_verdict n tol (length a) (length d) ≡ v → (v, a, d) ≡ decomposed n a d tol
+-- ---- one check after the other, each by `?`
+
+pub of_shape-told : (e : ShapeError) → shaped.told_error e ≡ told_error (of_shape e)
+of_shape-told (shape.Dimension place) = refl
+of_shape-told (shape.Mismatch place) = refl
+
+error-refuses : (e : LdltError) → refuses (told_error e) ≡ true
+error-refuses (Dimension place) = refl
+error-refuses Tolerance = refl
+error-refuses (Mismatch place) = refl
+error-refuses (NotFinite place pivot) = refl
+
+pub after_error : (e : LdltError) (next : Told) → first_of (told_error e) next ≡ told_error e
+after_error (Dimension place) next = refl
+after_error Tolerance next = refl
+after_error (Mismatch place) next = refl
+after_error (NotFinite place pivot) next = refl
+
+pub ruleset in_order = (of_shape-told, after_error, after_done)
+
+-- what `?` hands back is told as its error
+pub err-told : (s : Result LdltResult LdltError) (e : LdltError) → IsErrAnd s (λ x. x ≡ e) → told s ≡ told_error e
+err-told (Ok k) e h = absurd h
+err-told (Err x) e h = ap told_error h
+
+-- the number of an answer is that of what it tells
+pub number-told : (r : Result LdltResult LdltError) → number_by told_error r ≡ number (told r)
+number-told (Ok k) = refl
+number-told (Err e) = refl
+
+-- ---- the promise of a decomposition whose checks answered r
+
+module _ (n : ℕ) (a d : List Float) (tol : Float) (r : Result Unit LdltError) (says : told_checks r ≡ decompose_verdict n tol (length a) (length d)) where
+  pub refused : (e : LdltError) → r ≡ Err e → (told_error e, a, d) ≡ decomposed n a d tol
   unfolding decomposed
-  refused_as v r e = rw (e, r)
+  refused e is = rw (sym says ∙ ap told_checks is, error-refuses e)
 
-  pub too_large : 16 < n → (bad_dimension 0, a, d) ≡ decomposed n a d tol
-  unfolding decompose_verdict
-  too_large h = refused_as _ refl (rw (size-large 0 0 n (omega arith) h))
-
-  pub bad-tolerance : n ≤ 16 → is_tolerance tol ≡ false → (bad_tolerance, a, d) ≡ decomposed n a d tol
-  unfolding decompose_verdict
-  bad-tolerance h t = refused_as _ refl (rw (size_fits 0 0 n (omega arith) h, t))
-
-  module _ (small : n ≤ 16) (tolerable : is_tolerance tol ≡ true) where
-    pub other_block : (length a ≡ n * n → ⊥) → (shapes_disagree 0, a, d) ≡ decomposed n a d tol
-    unfolding decompose_verdict
-    other_block h = refused_as _ refl (rw (size_fits 0 0 n (omega arith) small, tolerable, area-differs 0 n n (length a) h))
-
-    pub other-d : length a ≡ n * n → (length d ≡ n → ⊥) → (shapes_disagree 1, a, d) ≡ decomposed n a d tol
-    unfolding decompose_verdict
-    other-d e h =
-        refused_as _ refl
-        (rw (size_fits 0 0 n (omega arith) small, tolerable, area-fits 0 n n (length a) e, area-differs 1 n 1 (length d) (λ k. h (omega arith))))
-
-    pub passes : length a ≡ n * n → length d ≡ n → told_factored (ldlt n tol a) ≡ decomposed n a d tol
-    unfolding decomposed decompose_verdict
-    passes e k = rw (size_fits 0 0 n (omega arith) small, tolerable, area-fits 0 n n (length a) e, area-fits 1 n 1 (length d) (omega arith))
+  pub passes : (w : Unit) → r ≡ Ok w → told_factored (ldlt n tol a) ≡ decomposed n a d tol
+  unfolding decomposed
+  passes w is = rw (sym says ∙ ap told_checks is)

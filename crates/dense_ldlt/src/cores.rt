@@ -8,16 +8,21 @@ use dense_rows::cores::{clear_upper, divide_row, kept_of};
 use scalar::cores::store;
 use scalar::{blank, is_finite};
 
-// How the core ends: a refusal carries the row and its pivot.
-#[derive(Clone, Copy)]
-pub enum Factored {
-    Accepted(LdltResult),
-    NotFinite { place: usize, pivot: f64 },
+// The core's refusal: the pivot of row `place` is NaN or infinite.
+#[derive(Clone, Copy, Debug, PartialEq)]
+pub struct NotFinite {
+    pub place: usize,
+    pub pivot: f64,
 }
 
 // The lower triangle of A becomes that of L, with 1.0 on the diagonal and 0.0 above it, and d the diagonal of D; after a pivot
 // that is not finite both are NaNs in full.
-pub fn ldlt_decompose_core(n: usize, a: &mut [f64], d: &mut [f64], tol: f64) -> Factored
+pub fn ldlt_decompose_core(
+    n: usize,
+    a: &mut [f64],
+    d: &mut [f64],
+    tol: f64,
+) -> Result<LdltResult, NotFinite>
     requires a_len { length a.old ≡ n * n }
     requires d_len { length d.old ≡ n }
     ensures { (result, a.new, d.new) ≡ ldlt n tol a.old }
@@ -35,7 +40,7 @@ pub fn ldlt_decompose_core(n: usize, a: &mut [f64], d: &mut [f64], tol: f64) -> 
         if !is_finite(x) {
             blank(a);
             blank(d);
-            return Factored::NotFinite { place: j, pivot: x };
+            return Err(NotFinite { place: j, pivot: x });
         }
         let kept = kept_of(tolerance, x);
         d[j] = kept;
@@ -43,5 +48,5 @@ pub fn ldlt_decompose_core(n: usize, a: &mut [f64], d: &mut [f64], tol: f64) -> 
         store(a, n, n, j, j, 1.0);
     }
     clear_upper(n, a);
-    Factored::Accepted(result_of(p))
+    Ok(result_of(p))
 }

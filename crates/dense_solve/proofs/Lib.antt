@@ -1,3 +1,2 @@
--- What belongs to no one function: what the checks of the shapes say where they pass, and divisions that wait.
-pub mod Shapes
+-- What belongs to no one function: divisions that wait.
 pub mod Division

@@ -1,14 +1,14 @@
 // The solves where the lengths are known to be right, and the checks that they share with the blocks of a diagonal.
-ghost use Rattle.std.specs.Prelude.{◌≡◌, ◌*◌, length};
+ghost use Rattle.std.specs.Prelude.{◌≡◌, ◌*◌, length, OnOk};
 ghost use Rattle.refusal.specs.Shaped.{told};
-ghost use Rattle.kernel_diag.specs.Diag.{quotient, diag_solve};
+ghost use Rattle.kernel_diag.specs.Diag.{diag_solve};
 ghost use Rattle.kernel_lower_transpose.specs.Transpose.{lower_transpose_solve};
 ghost use Rattle.dense_solve.specs.Solve.{ldlt_solve, ldlt_matsolve, solve_verdict};
 
-use kernel_diag::cores::diag_matsolve_core;
+use kernel_diag::cores::{diag_matsolve_core, quotient_of};
 use kernel_lower::cores::{lower_matsolve_core, lower_solve_core};
 use kernel_lower_transpose::cores::lower_transpose_matsolve_core;
-use refusal::{Shaped, area, size, unchecked};
+use refusal::{ShapeError, area, size};
 use scalar::cores::entry;
 
 // x := A⁻¹ x
@@ -37,13 +37,6 @@ fn divided_transpose_core(n: usize, l: &[f64], d: &[f64], x: &mut [f64])
     }
 }
 
-// y / d, and 0.0 where d is 0.0.
-fn quotient_of(y: f64, d: f64) -> f64
-    ensures { result ≡ quotient y d }
-{
-    if d == 0.0 { 0.0 } else { y / d }
-}
-
 // X := A⁻¹ X
 pub fn ldlt_matsolve_core(n: usize, nrhs: usize, l: &[f64], d: &[f64], x: &mut [f64])
     requires { (length l.now ≡ n * n) × (length d.now ≡ n) × (length x.old ≡ n * nrhs) }
@@ -55,11 +48,13 @@ pub fn ldlt_matsolve_core(n: usize, nrhs: usize, l: &[f64], d: &[f64], x: &mut [
 }
 
 // The shapes of a solve with one right side.
-pub fn solve_shapes(least: usize, n: usize, l: usize, d: usize, x: usize) -> Shaped
-    ensures { told result ≡ solve_verdict least n l d x }
+#[tactic(auto, using(refusal::proofs::Laws::in_order), unfolding(crate::specs::Solve::solve_verdict))]
+pub fn solve_shapes(least: usize, n: usize, l: usize, d: usize, x: usize) -> Result<(), ShapeError>
+    ensures verdict { told result ≡ solve_verdict least n l d x }
+    ensures fits { OnOk result ((l ≡ n * n) × (d ≡ n) × (x ≡ n)) }
 {
-    let s = size(unchecked(), least, 0, n);
-    let s = area(s, 0, n, n, l);
-    let s = area(s, 1, n, 1, d);
-    area(s, 2, n, 1, x)
+    size(least, 0, n)?;
+    area(0, n, n, l)?;
+    area(1, n, 1, d)?;
+    area(2, n, 1, x)
 }

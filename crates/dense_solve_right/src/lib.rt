@@ -9,7 +9,7 @@ ghost use Rattle.refusal.specs.Shaped.{Answers};
 ghost use Rattle.dense_solve_right.specs.SolveRight.{ldlt_right_matsolve, right_verdict};
 
 use crate::cores::{ldlt_right_matsolve_core, right_shapes};
-use refusal::{Shaped, refused};
+use refusal::ShapeError;
 
 // X := X A⁻¹, with L of n rows and columns, d of n numbers and X of m rows and n columns.
 pub fn ldlt_right_matsolve_inplace(
@@ -18,13 +18,10 @@ pub fn ldlt_right_matsolve_inplace(
     ld: &[f64],
     d: &[f64],
     x: &mut [f64],
-) -> Shaped
+) -> Result<(), ShapeError>
     ensures { Answers (right_verdict 0 m n (length ld.now) (length d.now) (length x.old)) x.old (ldlt_right_matsolve m n ld.now d.now x.old) result x.new }
 {
-    let s = right_shapes(0, m, n, ld.len(), d.len(), x.len());
-    if refused(s) {
-        return s;
-    }
+    right_shapes(0, m, n, ld.len(), d.len(), x.len())?;
     ldlt_right_matsolve_core(m, n, ld, d, x);
-    s
+    Ok(())
 }

@@ -26,10 +26,8 @@ pub fn spell(out: &mut [u8], at: usize, base: u64, k: usize, n: u64)
     requires { (0 < base) × (base ≤ 16) × (at + k ≤ length out.old) }
     ensures { out.new ≡ written at (digits base k n) out.old }
 {
-    let mut i = k;
     let mut rest = n;
-    while i > 0 {
-        i -= 1;
+    for i in (0..k).rev() {
         out[at + i] = digit(rest % base);
         rest /= base;
     }
@@ -39,16 +37,14 @@ pub fn spell(out: &mut [u8], at: usize, base: u64, k: usize, n: u64)
 pub fn places(n: u64) -> usize
     ensures { (result ≡ Digits·places n) × (result ≤ 20) }
 {
-    let mut k: usize = 1;
     let mut unit: u64 = 1;
-    while k < 20 {
+    for k in 1..20 {
         if n / unit < 10 {
             return k;
         }
         unit *= 10;
-        k += 1;
     }
-    k
+    20
 }
 
 // n in decimal, with no leading zeros.

@@ -8,7 +8,7 @@ use borrow.Author.Tests.{eq-eqb, ne_eqb, lt-ltb, le-ltb, eqb-true}
 use lib.ListN.{get_or-map}
 use lib.Seq.{slice, slice-cons, slice_empty}
 use Rattle.graph.specs.Sets.{keep, filter}
-use Rattle.buckets.proofs.Lists.{map-set, get_d_any}
+use Rattle.buckets.proofs.Lists.{map-set, get_or_any}
 use Rattle.graph.specs.Liu.{Forest, ancestor_of, passed, rooted, walk, walks}
 use Rattle.elimination_tree.specs.Tree.{root, code, pick, decode, as_forest}
 
@@ -34,7 +34,7 @@ codes (x ∷ l) = ap (λ (y : ℕ). y ∷ map code (map decode l)) (code-decode 
 -- ---- reads and stores
 
 pub read : (l : List ℕ) (i : ℕ) → i < length l → get_or (map decode l) i none ≡ decode (get_or l i 0)
-read l i h = get_or-map decode l i root ∙ ap decode (get_d_any l i root 0 h)
+read l i h = get_or-map decode l i root ∙ ap decode (get_or_any l i root 0 h)
 
 pub stored : (l : List ℕ) (i j : ℕ) → j < 4096 → set (map decode l) i (some j) ≡ map decode (set l i j)
 stored l i j h = ap (set (map decode l) i) (sym (decode-block j (λ e. omega arith))) ∙ sym (map-set decode l i j)

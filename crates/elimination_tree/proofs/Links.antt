@@ -16,7 +16,7 @@ use Rattle.graph.proofs.SetLaws.{filter-elim, filter-intro, filter-inc, between-
 use Rattle.graph.proofs.SymbolicLaws.{parent_least}
 use Rattle.graph.proofs.LiuLaws.{forest_ready}
 use Rattle.graph.proofs.TreeLaws.{tree-least}
-use Rattle.buckets.proofs.Lists.{get_d_any}
+use Rattle.buckets.proofs.Lists.{get_or_any}
 use Rattle.elimination_tree.specs.Tree.{root, code, decode, upper, Ascends, linked_up, forest_by, parents_of}
 use Rattle.elimination_tree.proofs.Laws.{decode-block}
 
@@ -70,7 +70,7 @@ module _ (linked : ℕ → ℕ → Bool) (n : ℕ) (symm : (a b : ℕ) → T (li
   pub parents-at : (k : ℕ) → k < n → get_or (parents_of linked n) k 0 ≡ code (tree_parent linked n k)
   unfolding tree_parent
   parents-at k h =
-      get_d_any (parents_of linked n) k 0 root (subst (λ (m : ℕ). k < m) (sym parents-length) h) ∙ get_or-map code (forest linked n n).parent k none
+      get_or_any (parents_of linked n) k 0 root (subst (λ (m : ℕ). k < m) (sym parents-length) h) ∙ get_or-map code (forest linked n n).parent k none
 
   module _ (few : n ≤ 4096) where
     -- and back

@@ -1,10 +1,9 @@
 -- What an upper pattern that passes gives the work, and what `new` answers in each case. Assumes nothing.
-use Rattle.std.specs.Prelude.{◌≡◌, ℕ, zero, suc, ◌+◌, ◌<◌, ◌≤◌, Bool, true, false, cond, T, ltb, List, [], ◌∷◌, ◌++◌, length, get_or, drop, replicate}
+use Rattle.std.specs.Prelude.{◌≡◌, ℕ, ◌+◌, ◌<◌, ◌≤◌, Bool, true, cond, T, ltb, List, [], ◌∷◌, ◌++◌, length, get_or, drop, replicate, Result, Ok, Err}
+use Rattle.std.specs.Result.{IsErr, IsErrAnd}
 use mathlib.Core.Bool.{false≢true}
 use mathlib.Core.Path.{refl, sym, ap, subst, ◌∙◌}
-use native.Mathlib.Omega.{arith}
 use lib.Seq.{slice, drop_at}
-use Rattle.graph.specs.Sets.{Inc}
 use Rattle.graph.specs.Fill.{Least}
 use Rattle.graph.specs.Tree.{Parent}
 use Rattle.graph.proofs.SetLaws.{filter-inc}
@@ -16,8 +15,9 @@ use Rattle.refusal.proofs.Laws.{stays-refused, need-short, need-met}
 use Rattle.tables.specs.Verdict.{upper_verdict}
 use Rattle.tables.specs.Sound.{UpperSound}
 use Rattle.elimination_tree.specs.Tree.{decode, Pattern, Ascends, linked_up, parents_of}
-use Rattle.elimination_tree.specs.New.{told, needs, new_verdict, Grows}
-use Rattle.elimination_tree.specs.declared.Grown.{Grown}
+use Rattle.elimination_tree.specs.New.{told, told_error, needs, new_verdict, Grows}
+use Rattle.elimination_tree.specs.declared.TreeError.{TreeError}
+use Rattle.elimination_tree.specs.declared.TreeError.TheVariants.{Blocks, Starts, Row, Order, Short}
 use Rattle.elimination_tree.proofs.Links.{linked-symm, parents-length, parents-least}
 
 -- ---- a pattern that passes
@@ -48,7 +48,7 @@ needs-met n parents ancestors p h =
 -- ---- the answer in each case
 
 -- refused: nothing is changed
-pub refused : (v : Told) (n : ℕ) (starts rows parents ancestors : List ℕ) (r : Grown) → told r ≡ v → refuses v ≡ true → Grows v n starts rows parents ancestors r parents ancestors
+pub refused : (v : Told) (n : ℕ) (starts rows parents ancestors : List ℕ) (r : Result Unit TreeError) → told r ≡ v → refuses v ≡ true → Grows v n starts rows parents ancestors r parents ancestors
 refused v n starts rows parents ancestors r e stops =
     let same : (old new : List ℕ) → old ≡ after v old new = λ old new. sym (ap (λ (b : Bool). cond b old new) stops) in
     record { outcome = e; tree = same parents _; liu = λ passes. absurd (false≢true (sym passes ∙ stops)); scratch = same ancestors _ }
@@ -63,7 +63,7 @@ is-parent n starts rows rest tree few e k below =
     parent-of-least linked symm n k (decode (get_or (tree ++ rest) k 0)) (subst (λ (x : ℕ). Least linked n k (decode x)) entry (parents-least linked n symm few k below))
 
 -- accepted: the tree before what stood after it, and zeros for the scratch
-pub grown : (v : Told) (n : ℕ) (starts rows parents ancestors tree used zeros : List ℕ) (r : Grown) → n ≤ 4096 → told r ≡ done → v ≡ done → length used ≡ n →
+pub grown : (v : Told) (n : ℕ) (starts rows parents ancestors tree used zeros : List ℕ) (r : Result Unit TreeError) → n ≤ 4096 → told r ≡ done → v ≡ done → length used ≡ n →
     tree ≡ parents_of (linked_up starts rows) n → zeros ≡ replicate n 0 →
     Grows v n starts rows parents ancestors r (tree ++ drop n parents) (zeros ++ drop n (used ++ drop n ancestors))
 grown v n starts rows parents ancestors tree used zeros r few e passed size is-tree are-zeros =
@@ -75,14 +75,25 @@ grown v n starts rows parents ancestors tree used zeros r few e passed size is-t
       scratch = ap (λ (l : List ℕ). l ++ drop n (used ++ drop n ancestors)) are-zeros ∙ ap (λ (l : List ℕ). replicate n 0 ++ l) (drop_at used (drop n ancestors) n size) ∙ new ancestors _;
     }
 
+-- each error is a refusal
+error-refuses : (e : TreeError) → refuses (told_error e) ≡ true
+error-refuses Blocks = refl
+error-refuses (Starts place) = refl
+error-refuses (Row place) = refl
+error-refuses (Order place) = refl
+error-refuses (Short which need) = refl
+
 -- the pattern is refused, and so is the call, in the same words
-pub pattern-refused : (n : ℕ) (starts rows parents ancestors : List ℕ) (r : Grown) → refuses (told r) ≡ true → told r ≡ upper_verdict n starts rows →
+pub pattern-refused : (n : ℕ) (starts rows parents ancestors : List ℕ) (r : Result Unit TreeError) (v : Told) → IsErr r × IsErrAnd r (λ e. told_error e ≡ v) → v ≡ upper_verdict n starts rows →
     Grows (new_verdict n starts rows (length parents) (length ancestors)) n starts rows parents ancestors r parents ancestors
 unfolding new_verdict
-pattern-refused n starts rows parents ancestors r stops e =
+pattern-refused n starts rows parents ancestors (Ok w) v p e = absurd (false≢true p.0)
+pattern-refused n starts rows parents ancestors (Err r) v p e =
     let list = needs n (length parents) (length ancestors) in
-    let stays : verdict_after (upper_verdict n starts rows) list ≡ told r = ap (λ (t : Told). verdict_after t list) (sym e) ∙ stays-refused (told r) list stops in
-    refused _ n starts rows parents ancestors r (sym stays) (ap refuses stays ∙ stops)
+    let stops : refuses (told_error r) ≡ true = error-refuses r in
+    let same : told_error r ≡ upper_verdict n starts rows = p.1 ∙ e in
+    let stays : verdict_after (upper_verdict n starts rows) list ≡ told_error r = ap (λ (t : Told). verdict_after t list) (sym same) ∙ stays-refused (told_error r) list stops in
+    refused _ n starts rows parents ancestors (Err r) (sym stays) (ap refuses stays ∙ stops)
 
 -- the pattern passes, and the needs decide
 pub pattern-passed : (n : ℕ) (starts rows : List ℕ) (parents ancestors : ℕ) → done ≡ upper_verdict n starts rows → verdict (needs n parents ancestors) ≡ new_verdict n starts rows parents ancestors

@@ -36,13 +36,11 @@ fn column(parent: &mut [u32], ancestor: &mut [u32], rows: &[u32], from: usize, t
     ensures ancestor_after { as_forest parent.new ancestor.new ≡ walks j (filter (λ i. nat_lt i j) (slice from to rows.now)) (as_forest parent.old ancestor.old) }
     ensures climbs_2 { Climbs j ancestor.new }
 {
-    let mut q = from;
-    while q < to {
+    for q in from..to {
         let i = rows[q];
         if i < j {
             climb(parent, ancestor, j, i);
         }
-        q += 1;
     }
 }
 
@@ -56,11 +54,9 @@ pub fn new_core(starts: &[u32], rows: &[u32], parent: &mut [u32], ancestor: &mut
     buckets::cores::fill(parent, NONE);
     buckets::cores::fill(ancestor, NONE);
     let n = parent.len();
-    let mut j = 0;
-    while j < n {
+    for j in 0..n {
         let from = starts[j];
         let to = starts[j + 1];
         column(parent, ancestor, rows, from as usize, to as usize, j as u32);
-        j += 1;
     }
 }

@@ -3,19 +3,19 @@
 
 pub mod cores;
 
-ghost use Rattle.std.specs.Prelude.{length};
 ghost use Rattle.tables.specs.Sound.{UpperSound};
 ghost use Rattle.refusal.specs.Refusal.{verdict};
-ghost use Rattle.elimination_tree.specs.New.{needs, new_verdict, Grows};
+ghost use Rattle.std.specs.Prelude.{◌≡◌, length};
+ghost use Rattle.upper_checks.specs.Outcome.{told_upper_error};
+ghost use Rattle.elimination_tree.specs.New.{told_error, needs, new_verdict, Grows};
 
 use crate::cores::new_core;
-use refusal::Worked;
-use upper_checks::{Upper, check_upper};
+use refusal::Refusal;
+use upper_checks::{UpperError, check_upper};
 
-// The outcome of `new`.
-#[derive(Clone, Copy)]
-pub enum Grown {
-    Accepted(Worked),
+// The refusals of `new`.
+#[derive(Clone, Copy, Debug, PartialEq, Eq)]
+pub enum TreeError {
     // 1
     Blocks,
     // 3: the entry of the column starts.
@@ -28,6 +28,34 @@ pub enum Grown {
     Short { which: usize, need: usize },
 }
 
+impl Refusal for TreeError {
+    ghost told = { told_error };
+
+    fn number(&self) -> u32 {
+        match self {
+            TreeError::Blocks => 1,
+            TreeError::Starts { place: _ } => 3,
+            TreeError::Row { place: _ } => 5,
+            TreeError::Order { place: _ } => 6,
+            TreeError::Short { which: _, need: _ } => 11,
+        }
+    }
+}
+
+// A pattern that is refused refuses the tree in the same words.
+impl From<UpperError> for TreeError {
+    ghost from_gives = { λ e r. told_error r ≡ told_upper_error e };
+
+    fn from(e: UpperError) -> TreeError {
+        match e {
+            UpperError::Blocks => TreeError::Blocks,
+            UpperError::Starts { place } => TreeError::Starts { place },
+            UpperError::Row { place } => TreeError::Row { place },
+            UpperError::Order { place } => TreeError::Order { place },
+        }
+    }
+}
+
 // The parents of n blocks, in the first n places, from an upper pattern: column j lists rows ascending, of which those from j on
 // are skipped. None is 4,294,967,295. `ancestors` is scratch of n places. After a refusal nothing is changed.
 pub fn new(
@@ -36,17 +64,11 @@ pub fn new(
     rows: &[u32],
     parents: &mut [u32],
     ancestors: &mut [u32],
-) -> Grown
+) -> Result<(), TreeError>
     ensures { Grows (new_verdict n starts.now rows.now (length parents.old) (length ancestors.old)) n starts.now rows.now parents.old ancestors.old result parents.new ancestors.new }
 {
-    let u = check_upper(n, starts, rows);
-    match u {
-        Upper::Accepted(_) => grown_core(n, starts, rows, parents, ancestors),
-        Upper::Blocks => Grown::Blocks,
-        Upper::Starts { place } => Grown::Starts { place },
-        Upper::Row { place } => Grown::Row { place },
-        Upper::Order { place } => Grown::Order { place },
-    }
+    check_upper(n, starts, rows)?;
+    grown_core(n, starts, rows, parents, ancestors)
 }
 
 // The tree of a pattern that has passed: the buffers' needs, then the work.
@@ -56,17 +78,17 @@ fn grown_core(
     rows: &[u32],
     parents: &mut [u32],
     ancestors: &mut [u32],
-) -> Grown
+) -> Result<(), TreeError>
     requires { UpperSound n starts.now rows.now }
     ensures { Grows (verdict (needs n (length parents.old) (length ancestors.old))) n starts.now rows.now parents.old ancestors.old result parents.new ancestors.new }
 {
     if parents.len() < n {
-        return Grown::Short { which: 0, need: n };
+        return Err(TreeError::Short { which: 0, need: n });
     }
     if ancestors.len() < n {
-        return Grown::Short { which: 1, need: n };
+        return Err(TreeError::Short { which: 1, need: n });
     }
     new_core(starts, rows, &mut parents[..n], &mut ancestors[..n]);
     buckets::cores::fill(&mut ancestors[..n], 0);
-    Grown::Accepted(Worked {})
+    Ok(())
 }

@@ -1,10 +1,12 @@
 // The factorization on any input; the cache's bound is a multiple of what is handed in, 0 for a call that is lent none.
-ghost use Rattle.std.specs.Prelude.{◌≡◌, ℕ, ◌+◌, ◌*◌, ◌≤◌, length};
+ghost use Rattle.std.specs.Prelude.{◌≡◌, ℕ, ◌+◌, ◌*◌, ◌≤◌, true, length};
+ghost use Rattle.refusal.specs.Refusal.{refuses};
+ghost use Rattle.checks.specs.Outcome.{told_system_error};
 ghost use Rattle.factor_setup.specs.Exact.{system};
-ghost use Rattle.factor_core.specs.Factorize.{lent, early};
+ghost use Rattle.factor_core.specs.Factorize.{told, lent, early};
 ghost use Rattle.factor_core.specs.Cache.{handed_in, FactorsKept};
 
-use checks::{System, check_system};
+use checks::{SystemError, check_system};
 use factor_core::Factorized;
 use factor_room::cores::lent_core;
 
@@ -45,9 +47,8 @@ pub fn factor_checked(
     requires { scale ≤ 16 }
     ensures { FactorsKept (early (system dims.now starts.now rows.now values.now perm.now late.now tol) (lent order.old parents.old l_starts.old l_rows.old l_offsets.old l_values.old diag.old d.old column.old inverse.old sizes.old count.old heads.old into.old stamps.old table.old upper.old bodies.old unit_starts.old d_starts.old places.old)) (scale * (1 + handed_in (system dims.now starts.now rows.now values.now perm.now late.now tol))) (system dims.now starts.now rows.now values.now perm.now late.now tol) (lent order.old parents.old l_starts.old l_rows.old l_offsets.old l_values.old diag.old d.old column.old inverse.old sizes.old count.old heads.old into.old stamps.old table.old upper.old bodies.old unit_starts.old d_starts.old places.old) cache.old result (lent order.new parents.new l_starts.new l_rows.new l_offsets.new l_values.new diag.new d.new column.new inverse.new sizes.new count.new heads.new into.new stamps.new table.new upper.new bodies.new unit_starts.new d_starts.new places.new) cache.new }
 {
-    let tables = check_system(dims, starts, rows, values, perm, late, tol);
-    match tables {
-        System::Accepted(_) => {
+    match check_system(dims, starts, rows, values, perm, late, tol) {
+        Ok(_) => {
             let most = kept_bound(dims, starts, rows, values, perm, late, scale);
             lent_core(
                 dims,
@@ -82,16 +83,25 @@ pub fn factor_checked(
                 cache,
             )
         }
-        System::Blocks => Factorized::Blocks,
-        System::Dimension { place } => Factorized::Dimension { place },
-        System::Starts { place } => Factorized::Starts { place },
-        System::Stored => Factorized::Stored,
-        System::Row { place } => Factorized::Row { place },
-        System::Order { place } => Factorized::Order { place },
-        System::Values => Factorized::Values,
-        System::Permutation { place } => Factorized::Permutation { place },
-        System::Late { place } => Factorized::Late { place },
-        System::Tolerance => Factorized::Tolerance,
+        Err(e) => of_tables(e),
+    }
+}
+
+// A refusal of the tables, as the factorization's own.
+fn of_tables(e: SystemError) -> Factorized
+    ensures { (told result ≡ told_system_error e) × (refuses (told result) ≡ true) }
+{
+    match e {
+        SystemError::Blocks => Factorized::Blocks,
+        SystemError::Dimension { place } => Factorized::Dimension { place },
+        SystemError::Starts { place } => Factorized::Starts { place },
+        SystemError::Stored => Factorized::Stored,
+        SystemError::Row { place } => Factorized::Row { place },
+        SystemError::Order { place } => Factorized::Order { place },
+        SystemError::Values => Factorized::Values,
+        SystemError::Permutation { place } => Factorized::Permutation { place },
+        SystemError::Late { place } => Factorized::Late { place },
+        SystemError::Tolerance => Factorized::Tolerance,
     }
 }
 

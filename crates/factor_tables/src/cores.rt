@@ -91,10 +91,8 @@ pub fn scalars(dims: &[u32]) -> usize
     ensures { result ≡ scalar_count dims.now }
 {
     let mut sum = 0;
-    let mut k = 0;
-    while k < dims.len() {
-        sum += dims[k] as usize;
-        k += 1;
+    for &size in dims {
+        sum += size as usize;
     }
     sum
 }
@@ -105,11 +103,9 @@ pub fn unit_numbers(dims: &[u32]) -> usize
     ensures { result ≡ units_need dims.now }
 {
     let mut sum = 0;
-    let mut k = 0;
-    while k < dims.len() {
-        let size = dims[k] as usize;
+    for &dim in dims {
+        let size = dim as usize;
         sum += size * size;
-        k += 1;
     }
     sum
 }

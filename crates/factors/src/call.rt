@@ -2,51 +2,38 @@
 // tables from 0 on, those of the 21 lent buffers from 6 on, the tolerance at 27 and 28, the answer from 29 on.
 ghost use Rattle.std.specs.Prelude.{◌≤◌};
 
-use crate::numbers::float;
+use crate::judge;
 use crate::told::{matches, of};
-use crate::{judge, numbers};
 use factorize::factorize;
-use word_list::lent::all;
+use word_list::cases::{BadList, Case};
+use word_list::entry::{Entry, float};
+use word_list::lent::{lent, table};
+use word_list::room;
 use word_list::room::held;
-use word_list::words::size;
-use word_list::{room, words};
 
-// What a turn at the list comes to.
-#[derive(Clone, Copy)]
-pub enum Turn {
-    // The word that ends the list.
-    End,
-    // The input ends early, or a case does not fit.
-    Bad,
-    Right { kind: usize },
-    Wrong { kind: usize },
-}
+// The room for a buffer of floats.
+const NUMBERS: usize = 40960;
 
-// Reads the next case and judges it.
-pub fn next() -> Turn {
-    let first = words::next();
-    if !first.is {
-        return Turn::Bad;
-    }
-    let kind = size(first.value);
+// Reads the next case and judges it; none is the word that ends the list. A list is bad where the input ends early or a case does not fit.
+pub fn next() -> Result<Option<Case>, BadList> {
+    let Some(first) = u32::next() else {
+        return Err(BadList {});
+    };
+    let kind = first as usize;
     if kind == 0 {
-        return Turn::End;
+        return Ok(None);
     }
-    let mut h = [0u32; 44];
-    words::read(&mut h, 44);
+    let h: [u32; 44] = table(44);
     if !fits(&h) {
-        return Turn::Bad;
+        return Err(BadList {});
     }
-    if read(&h) {
-        return Turn::Right { kind };
-    }
-    Turn::Wrong { kind }
+    Ok(Some(Case::one(kind, read(&h))))
 }
 
 // Whether the tables and buffers of a case have room.
 fn fits(h: &[u32; 44]) -> bool {
     for k in 0..27usize {
-        if size(h[k]) > room_of(k) {
+        if h[k] as usize > room_of(k) {
             return false;
         }
     }
@@ -57,7 +44,7 @@ fn fits(h: &[u32; 44]) -> bool {
 fn room_of(k: usize) -> usize {
     match k {
         2 | 9 | 10 | 21..=23 => room::STORED,
-        3 | 11..=14 => numbers::ROOM,
+        3 | 11..=14 => NUMBERS,
         _ => room::BLOCKS,
     }
 }
@@ -67,15 +54,15 @@ fn read(h: &[u32; 44]) -> bool {
     let k0 = held(h[0], room::BLOCKS);
     let k1 = held(h[1], room::BLOCKS);
     let k2 = held(h[2], room::STORED);
-    let k3 = held(h[3], numbers::ROOM);
+    let k3 = held(h[3], NUMBERS);
     let k4 = held(h[4], room::BLOCKS);
     let k5 = held(h[5], room::BLOCKS);
-    let dims = room::blocks(k0);
-    let starts = room::blocks(k1);
-    let rows = room::stored(k2);
-    let values = numbers::values(k3);
-    let perm = room::blocks(k4);
-    let late = room::blocks(k5);
+    let dims: [u32; 4112] = table(k0);
+    let starts: [u32; 4112] = table(k1);
+    let rows: [u32; 65552] = table(k2);
+    let values: [f64; 40960] = table(k3);
+    let perm: [u32; 4112] = table(k4);
+    let late: [u32; 4112] = table(k5);
     lending(
         h,
         &dims[..k0],
@@ -102,19 +89,19 @@ fn lending(
     let k8 = held(h[8], room::BLOCKS);
     let k9 = held(h[9], room::STORED);
     let k10 = held(h[10], room::STORED);
-    let k11 = held(h[11], numbers::ROOM);
-    let k12 = held(h[12], numbers::ROOM);
-    let k13 = held(h[13], numbers::ROOM);
-    let k14 = held(h[14], numbers::ROOM);
-    let mut order = room::lent_blocks();
-    let mut parents = room::lent_blocks();
-    let mut l_starts = room::lent_blocks();
-    let mut l_rows = room::lent_stored();
-    let mut l_offsets = room::lent_stored();
-    let mut l_values = numbers::lent();
-    let mut diag = numbers::lent();
-    let mut d = numbers::lent();
-    let mut column = numbers::lent();
+    let k11 = held(h[11], NUMBERS);
+    let k12 = held(h[12], NUMBERS);
+    let k13 = held(h[13], NUMBERS);
+    let k14 = held(h[14], NUMBERS);
+    let mut order: [u32; 4112] = lent();
+    let mut parents: [u32; 4112] = lent();
+    let mut l_starts: [u32; 4112] = lent();
+    let mut l_rows: [u32; 65552] = lent();
+    let mut l_offsets: [u32; 65552] = lent();
+    let mut l_values: [f64; 40960] = lent();
+    let mut diag: [f64; 40960] = lent();
+    let mut d: [f64; 40960] = lent();
+    let mut column: [f64; 40960] = lent();
     let told = with_scratch(
         h,
         dims,
@@ -135,7 +122,7 @@ fn lending(
     );
     let in_floats = judge::floats(h, &l_values, &diag, &d, &column);
     let in_tables = judge::tables(h, &order, &parents, &l_starts, &l_rows, &l_offsets);
-    all(told, in_floats, in_tables, true, true)
+    told && in_floats && in_tables
 }
 
 // The same for the rest of the scratch: what is told, and what is left in it.
@@ -170,18 +157,18 @@ fn with_scratch(
     let k24 = k.units;
     let k25 = k.pivots;
     let k26 = k.places;
-    let mut inverse = room::lent_blocks();
-    let mut sizes = room::lent_blocks();
-    let mut count = room::lent_blocks();
-    let mut heads = room::lent_blocks();
-    let mut into = room::lent_blocks();
-    let mut stamps = room::lent_blocks();
-    let mut table = room::lent_stored();
-    let mut upper = room::lent_stored();
-    let mut bodies = room::lent_stored();
-    let mut unit_starts = room::lent_blocks();
-    let mut d_starts = room::lent_blocks();
-    let mut places = room::lent_blocks();
+    let mut inverse: [u32; 4112] = lent();
+    let mut sizes: [u32; 4112] = lent();
+    let mut count: [u32; 4112] = lent();
+    let mut heads: [u32; 4112] = lent();
+    let mut into: [u32; 4112] = lent();
+    let mut stamps: [u32; 4112] = lent();
+    let mut table: [u32; 65552] = lent();
+    let mut upper: [u32; 65552] = lent();
+    let mut bodies: [u32; 65552] = lent();
+    let mut unit_starts: [u32; 4112] = lent();
+    let mut d_starts: [u32; 4112] = lent();
+    let mut places: [u32; 4112] = lent();
     let tol = float(h[27], h[28]);
     let f = factorize(
         dims,
@@ -217,7 +204,7 @@ fn with_scratch(
     let in_blocks = judge::scratch_blocks(h, &inverse, &sizes, &count, &stamps, &places);
     let in_starts = judge::scratch_starts(h, &heads, &into, &unit_starts, &d_starts);
     let in_stored = judge::scratch_stored(h, &table, &upper, &bodies);
-    all(told, in_blocks, in_starts, in_stored, true)
+    told && in_blocks && in_starts && in_stored
 }
 
 // How long the scratch after the working column is lent: apart, since a call is dear to prove in a function that hands on thirty places.

@@ -1,10 +1,8 @@
 // Whether every lent place is afterwards what the list says. Of the words in front of a case, 38 to 42 have what an answer fills: L's
 // blocks, L's numbers, the numbers of the diagonal factors, the scalars, the numbers of the working column; 43 is 0 where all is
 // unchanged, 1 where only scratch is written, 2 where the outputs are too, 3 where their floats are NaN.
-use crate::numbers;
-use word_list::lent::{all, output, scratch};
-use word_list::tally::sum;
-use word_list::words::size;
+use scalar::not_a_number;
+use word_list::lent::{output, scratch, written as told};
 
 // How many places of an output are written.
 fn written(h: &[u32; 44], need: usize) -> usize {
@@ -24,12 +22,12 @@ pub fn floats(
     d: &[f64; 40960],
     column: &[f64; 40960],
 ) -> bool {
-    let bad = h[43] == 3;
-    let in_l = numbers::output(l_values, written(h, size(h[39])), bad);
-    let in_diag = numbers::output(diag, written(h, size(h[40])), bad);
-    let in_d = numbers::output(d, written(h, size(h[41])), bad);
-    let clear = numbers::scratch(column, cleared(h, size(h[42])));
-    all(in_l, in_diag, in_d, clear, true)
+    let every = (h[43] == 3).then_some(not_a_number());
+    let in_l = told(l_values, written(h, h[39] as usize), every);
+    let in_diag = told(diag, written(h, h[40] as usize), every);
+    let in_d = told(d, written(h, h[41] as usize), every);
+    let clear = scratch(column, cleared(h, h[42] as usize));
+    in_l && in_diag && in_d && clear
 }
 
 // The plan's tables come next in the list.
@@ -41,16 +39,16 @@ pub fn tables(
     l_rows: &[u32; 65552],
     l_offsets: &[u32; 65552],
 ) -> bool {
-    let blocks = written(h, size(h[0]));
-    let starts = written(h, sum(size(h[0]), 1));
-    let stored = written(h, size(h[38]));
-    let ends = written(h, sum(size(h[38]), 1));
+    let blocks = written(h, h[0] as usize);
+    let starts = written(h, h[0] as usize + 1);
+    let stored = written(h, h[38] as usize);
+    let ends = written(h, h[38] as usize + 1);
     let a = output(order, blocks);
     let b = output(parents, blocks);
     let c = output(l_starts, starts);
     let d = output(l_rows, stored);
     let e = output(l_offsets, ends);
-    all(a, b, c, d, e)
+    a && b && c && d && e
 }
 
 // Scratch of as many places as blocks.
@@ -62,13 +60,13 @@ pub fn scratch_blocks(
     stamps: &[u32; 4112],
     places: &[u32; 4112],
 ) -> bool {
-    let need = cleared(h, size(h[0]));
+    let need = cleared(h, h[0] as usize);
     let a = scratch(inverse, need);
     let b = scratch(sizes, need);
     let c = scratch(count, need);
     let d = scratch(stamps, need);
     let e = scratch(places, need);
-    all(a, b, c, d, e)
+    a && b && c && d && e
 }
 
 // Scratch of one place more.
@@ -79,12 +77,12 @@ pub fn scratch_starts(
     unit_starts: &[u32; 4112],
     d_starts: &[u32; 4112],
 ) -> bool {
-    let need = cleared(h, sum(size(h[0]), 1));
+    let need = cleared(h, h[0] as usize + 1);
     let a = scratch(heads, need);
     let b = scratch(into, need);
     let c = scratch(unit_starts, need);
     let d = scratch(d_starts, need);
-    all(a, b, c, d, true)
+    a && b && c && d
 }
 
 // Scratch of as many places as stored blocks, and of one more.
@@ -94,9 +92,9 @@ pub fn scratch_stored(
     upper: &[u32; 65552],
     bodies: &[u32; 65552],
 ) -> bool {
-    let need = cleared(h, size(h[2]));
+    let need = cleared(h, h[2] as usize);
     let a = scratch(table, need);
     let b = scratch(upper, need);
-    let c = scratch(bodies, cleared(h, sum(size(h[2]), 1)));
-    all(a, b, c, true, true)
+    let c = scratch(bodies, cleared(h, h[2] as usize + 1));
+    a && b && c
 }

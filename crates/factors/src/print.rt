@@ -1,17 +1,36 @@
 // What the program writes.
 use io::{print_decimal, write_all};
 use word_list::print::{counts, verdict};
-use word_list::tally::total;
+use word_list::tally::Tally;
 
 const STDOUT: i32 = 1;
 
+// The kinds from 1 on.
+const NAMES: [&[u8]; 15] = [
+    b"random",
+    b"dense",
+    b"shapes",
+    b"few blocks",
+    b"late flags",
+    b"zero blocks and missing ones",
+    b"rank deficient",
+    b"at the threshold",
+    b"small and large numbers",
+    b"NaN and infinities",
+    b"refused at a block",
+    b"by hand",
+    b"large",
+    b"one fault or two",
+    b"lent buffers",
+];
+
 // A line for each kind, one for all, and the verdict.
-pub fn summary(cases: &[usize; 16], right: &[usize; 16]) {
+pub fn summary(tally: &Tally<16>) {
     for kind in 1..16usize {
         name(kind);
-        counts(cases[kind], right[kind]);
+        counts(tally.counts[kind]);
     }
-    verdict(total(cases), total(right));
+    verdict(tally.total());
 }
 
 pub fn wrong(k: u64, kind: usize) {
@@ -22,34 +41,8 @@ pub fn wrong(k: u64, kind: usize) {
     write_all(STDOUT, b"\n");
 }
 
+// A kind past the last has the last name.
 fn name(kind: usize) {
-    match kind {
-        1..=8 => name_pattern(kind),
-        _ => name_other(kind),
-    }
-}
-
-fn name_pattern(kind: usize) {
-    match kind {
-        1 => write_all(STDOUT, b"random"),
-        2 => write_all(STDOUT, b"dense"),
-        3 => write_all(STDOUT, b"shapes"),
-        4 => write_all(STDOUT, b"few blocks"),
-        5 => write_all(STDOUT, b"late flags"),
-        6 => write_all(STDOUT, b"zero blocks and missing ones"),
-        7 => write_all(STDOUT, b"rank deficient"),
-        _ => write_all(STDOUT, b"at the threshold"),
-    };
-}
-
-fn name_other(kind: usize) {
-    match kind {
-        9 => write_all(STDOUT, b"small and large numbers"),
-        10 => write_all(STDOUT, b"NaN and infinities"),
-        11 => write_all(STDOUT, b"refused at a block"),
-        12 => write_all(STDOUT, b"by hand"),
-        13 => write_all(STDOUT, b"large"),
-        14 => write_all(STDOUT, b"one fault or two"),
-        _ => write_all(STDOUT, b"lent buffers"),
-    };
+    let at = kind.clamp(1, NAMES.len()) - 1;
+    write_all(STDOUT, NAMES[at]);
 }

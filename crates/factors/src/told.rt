@@ -1,8 +1,7 @@
 // What a call answers, and whether the list says the same.
-use crate::numbers::float;
 use factorize::Factorized;
 use replay::same;
-use word_list::words::{size, whole};
+use word_list::entry::{float, whole};
 
 #[derive(Clone, Copy)]
 pub struct Told {
@@ -69,22 +68,22 @@ pub fn of(f: Factorized) -> Told {
 
 // Whether the words in front of a case say so.
 pub fn matches(h: &[u32; 44], t: Told) -> bool {
-    if size(h[29]) != t.number {
+    if h[29] as usize != t.number {
         return false;
     }
-    if size(h[30]) != t.first {
+    if h[30] as usize != t.first {
         return false;
     }
-    if size(h[31]) != t.second {
+    if h[31] as usize != t.second {
         return false;
     }
     if !same(float(h[32], h[33]), t.float) {
         return false;
     }
-    if size(h[34]) != t.stored {
+    if h[34] as usize != t.stored {
         return false;
     }
-    if size(h[35]) != t.numbers {
+    if h[35] as usize != t.numbers {
         return false;
     }
     whole(h[36], h[37]) == t.products

@@ -21,7 +21,7 @@ use Rattle.symbolic.specs.Columns.{Tree, Below, columns_of}
 use Rattle.symbolic.proofs.Climbs.{elem_back, elem-forth, uniq-back}
 use Rattle.symbolic.proofs.Passes.{below_none}
 use Rattle.fill_rows.specs.Repeats.{Rising, rows_in, repeats, top_of, Onward, Copied}
-use Rattle.fill_rows.proofs.Columns.{symm, column, row-fills, fills-row, column-repeats, repeats-child, up_least, blocks}
+use Rattle.fill_rows.proofs.Columns.{symm, row-fills, fills-row, column-repeats, repeats-child, up_least, blocks}
 use Rattle.fill_rows.proofs.Onward.{repeats?}
 use Rattle.fill_rows.proofs.Climbs.{found_below, found_rows, found_once, found_tops}
 

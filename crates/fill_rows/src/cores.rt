@@ -44,9 +44,7 @@ fn link(parent: &[u32], l_starts: &[u32], onward: &mut [u32])
     requires { Parents parent.now × Rising (length parent.now) l_starts.now × (length onward.old ≡ length parent.now) }
     ensures { Onward parent.now l_starts.now onward.new }
 {
-    let mut k = parent.len();
-    while k > 0 {
-        k -= 1;
+    for k in (0..parent.len()).rev() {
         let up = parent[k];
         if up == NONE {
             onward[k] = NONE;
@@ -62,12 +60,7 @@ fn copy_down(table: &mut [u32], from: usize, end: usize, to: usize)
     ensures by_index { (t : ℕ) → t < end - from → slice_index table.new (to + t) ≡ slice_index table.old (from + t) }
     ensures by_index_2 { (x : ℕ) → (x < to) ⊎ (to + (end - from) ≤ x) → slice_index table.new x ≡ slice_index table.old x }
 {
-    let count = end - from;
-    let mut t = 0;
-    while t < count {
-        table[to + t] = table[from + t];
-        t += 1;
-    }
+    table.copy_within(from..end, to);
 }
 
 // The columns that repeat their parents', each from its parent's, from the last column down.
@@ -75,9 +68,7 @@ fn copy_columns(parent: &[u32], l_starts: &[u32], l_rows: &mut [u32])
     requires { Parents parent.now × Rising (length parent.now) l_starts.now × (slice_index_or l_starts.now (length parent.now) 0 ≡ length l_rows.old) }
     ensures { Copied parent.now l_starts.now l_rows.old l_rows.new }
 {
-    let mut k = parent.len();
-    while k > 0 {
-        k -= 1;
+    for k in (0..parent.len()).rev() {
         if repeats_parent(parent, l_starts, k) {
             let up = parent[k];
             let p = up as usize;
@@ -113,15 +104,13 @@ pub fn fill(
     buckets::cores::copy(l_starts, next);
     link(parent, l_starts, onward);
     let n = parent.len();
-    let mut j = 0;
-    while j < n {
+    for j in 0..n {
         let from = starts[j] as usize;
         let to = starts[j + 1] as usize;
         let mark = j as u32 + 1;
         let at = top(parent, l_starts, onward, j as u32) as usize;
         stamp[at] = mark;
         symbolic::cores::store_climbs(onward, &rows[from..to], j as u32, mark, stamp, next, l_rows);
-        j += 1;
     }
     copy_columns(parent, l_starts, l_rows);
 }

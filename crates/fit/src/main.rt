@@ -23,9 +23,7 @@ fn main() {
 
 // The rest of the input, so that whoever writes it can end.
 fn skip() {
-    let mut turns: u64 = 0;
-    while turns < MOST {
-        turns += 1;
+    for _ in 0..MOST {
         if !more() {
             return;
         }

@@ -5,7 +5,7 @@ ghost use Rattle.kernel_diag.specs.Diag.{quotient, inverse, diag_solve, diag_mat
 use scalar::cores::{entry, store};
 
 // y / d, and 0.0 where d is 0.0.
-fn quotient_of(y: f64, d: f64) -> f64
+pub fn quotient_of(y: f64, d: f64) -> f64
     ensures { result ≡ quotient y d }
 {
     if d == 0.0 { 0.0 } else { y / d }
@@ -15,7 +15,7 @@ fn quotient_of(y: f64, d: f64) -> f64
 pub fn inverse_of(d: f64) -> f64
     ensures { result ≡ inverse d }
 {
-    if d == 0.0 { 0.0 } else { 1.0 / d }
+    quotient_of(1.0, d)
 }
 
 // y := D⁻¹ y

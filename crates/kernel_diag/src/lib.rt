@@ -4,52 +4,55 @@
 
 pub mod cores;
 
-ghost use Rattle.std.specs.Prelude.{◌≡◌, length};
+ghost use Rattle.std.specs.Prelude.{◌≡◌, length, ◌*◌, OnOk};
 ghost use Rattle.refusal.specs.Shaped.{told, Answers};
 ghost use Rattle.kernel_diag.specs.Diag.{diag_solve, diag_matsolve, diag_verdict, diag_mat_verdict};
 
 use crate::cores::{diag_matsolve_core, diag_solve_core};
-use refusal::{Shaped, area, refused, size, unchecked};
+use refusal::{ShapeError, area, size};
 
 // y := D⁻¹ y, with d and y of n numbers.
-pub fn diag_solve_inplaced(n: usize, d: &[f64], y: &mut [f64]) -> Shaped
+pub fn diag_solve_inplaced(n: usize, d: &[f64], y: &mut [f64]) -> Result<(), ShapeError>
     ensures { Answers (diag_verdict n (length d.now) (length y.old)) y.old (diag_solve n d.now y.old) result y.new }
 {
-    let s = diag_shapes(n, d.len(), y.len());
-    if refused(s) {
-        return s;
-    }
+    diag_shapes(n, d.len(), y.len())?;
     diag_solve_core(n, d, y);
-    s
+    Ok(())
 }
 
 // Y := D⁻¹ Y, with d of n numbers and Y of n rows and nrhs columns.
-pub fn diag_matsolve_inplaced(n: usize, nrhs: usize, d: &[f64], y: &mut [f64]) -> Shaped
+pub fn diag_matsolve_inplaced(
+    n: usize,
+    nrhs: usize,
+    d: &[f64],
+    y: &mut [f64],
+) -> Result<(), ShapeError>
     ensures { Answers (diag_mat_verdict n nrhs (length d.now) (length y.old)) y.old (diag_matsolve n nrhs d.now y.old) result y.new }
 {
-    let s = diag_mat_shapes(n, nrhs, d.len(), y.len());
-    if refused(s) {
-        return s;
-    }
+    diag_mat_shapes(n, nrhs, d.len(), y.len())?;
     diag_matsolve_core(n, nrhs, d, y);
-    s
+    Ok(())
 }
 
 // The shapes of a solve with one right side.
-fn diag_shapes(n: usize, d: usize, y: usize) -> Shaped
-    ensures { told result ≡ diag_verdict n d y }
+#[tactic(auto, using(refusal::proofs::Laws::in_order), unfolding(crate::specs::Diag::diag_verdict))]
+fn diag_shapes(n: usize, d: usize, y: usize) -> Result<(), ShapeError>
+    ensures verdict { told result ≡ diag_verdict n d y }
+    ensures fits { OnOk result ((d ≡ n) × (y ≡ n)) }
 {
-    let s = size(unchecked(), 0, 0, n);
-    let s = area(s, 0, n, 1, d);
-    area(s, 1, n, 1, y)
+    size(0, 0, n)?;
+    area(0, n, 1, d)?;
+    area(1, n, 1, y)
 }
 
 // The shapes of a solve with several right sides.
-fn diag_mat_shapes(n: usize, nrhs: usize, d: usize, y: usize) -> Shaped
-    ensures { told result ≡ diag_mat_verdict n nrhs d y }
+#[tactic(auto, using(refusal::proofs::Laws::in_order), unfolding(crate::specs::Diag::diag_mat_verdict))]
+fn diag_mat_shapes(n: usize, nrhs: usize, d: usize, y: usize) -> Result<(), ShapeError>
+    ensures verdict { told result ≡ diag_mat_verdict n nrhs d y }
+    ensures fits { OnOk result ((d ≡ n) × (y ≡ n * nrhs)) }
 {
-    let s = size(unchecked(), 0, 0, n);
-    let s = size(s, 0, 1, nrhs);
-    let s = area(s, 0, n, 1, d);
-    area(s, 1, n, nrhs, y)
+    size(0, 0, n)?;
+    size(0, 1, nrhs)?;
+    area(0, n, 1, d)?;
+    area(1, n, nrhs, y)
 }

@@ -1,9 +1,9 @@
 // The substitutions where the lengths are known to be right, and the checks of the lengths.
-ghost use Rattle.std.specs.Prelude.{◌≡◌, ◌*◌, length};
+ghost use Rattle.std.specs.Prelude.{◌≡◌, ◌*◌, length, OnOk};
 ghost use Rattle.refusal.specs.Shaped.{told};
 ghost use Rattle.kernel_lower.specs.Lower.{lower_solve, lower_matsolve, solve_verdict, matsolve_verdict};
 
-use refusal::{Shaped, area, size, unchecked};
+use refusal::{ShapeError, area, size};
 use scalar::cores::entry;
 
 // y := L⁻¹ y
@@ -35,20 +35,24 @@ pub fn lower_matsolve_core(n: usize, nrhs: usize, l: &[f64], y: &mut [f64])
 }
 
 // The shapes of a solve with one right side.
-pub fn solve_shapes(n: usize, l: usize, y: usize) -> Shaped
-    ensures { told result ≡ solve_verdict n l y }
+#[tactic(auto, using(refusal::proofs::Laws::in_order), unfolding(crate::specs::Lower::solve_verdict))]
+pub fn solve_shapes(n: usize, l: usize, y: usize) -> Result<(), ShapeError>
+    ensures verdict { told result ≡ solve_verdict n l y }
+    ensures fits { OnOk result ((l ≡ n * n) × (y ≡ n)) }
 {
-    let s = size(unchecked(), 0, 0, n);
-    let s = area(s, 0, n, n, l);
-    area(s, 1, n, 1, y)
+    size(0, 0, n)?;
+    area(0, n, n, l)?;
+    area(1, n, 1, y)
 }
 
 // The shapes of a solve with several right sides.
-pub fn matsolve_shapes(n: usize, nrhs: usize, l: usize, y: usize) -> Shaped
-    ensures { told result ≡ matsolve_verdict n nrhs l y }
+#[tactic(auto, using(refusal::proofs::Laws::in_order), unfolding(crate::specs::Lower::matsolve_verdict))]
+pub fn matsolve_shapes(n: usize, nrhs: usize, l: usize, y: usize) -> Result<(), ShapeError>
+    ensures verdict { told result ≡ matsolve_verdict n nrhs l y }
+    ensures fits { OnOk result ((l ≡ n * n) × (y ≡ n * nrhs)) }
 {
-    let s = size(unchecked(), 0, 0, n);
-    let s = size(s, 0, 1, nrhs);
-    let s = area(s, 0, n, n, l);
-    area(s, 1, n, nrhs, y)
+    size(0, 0, n)?;
+    size(0, 1, nrhs)?;
+    area(0, n, n, l)?;
+    area(1, n, nrhs, y)
 }

@@ -10,28 +10,27 @@ ghost use Rattle.kernel_lower_transpose.specs.Transpose.{lower_transpose_solve, 
 
 use crate::cores::{lower_transpose_matsolve_core, lower_transpose_solve_core};
 use kernel_lower::cores::{matsolve_shapes, solve_shapes};
-use refusal::{Shaped, refused};
+use refusal::ShapeError;
 
 // y := L⁻ᵀ y, with L of n rows and columns and y of n numbers.
-pub fn lower_transpose_solve_inplace(n: usize, l: &[f64], y: &mut [f64]) -> Shaped
+pub fn lower_transpose_solve_inplace(n: usize, l: &[f64], y: &mut [f64]) -> Result<(), ShapeError>
     ensures { Answers (solve_verdict n (length l.now) (length y.old)) y.old (lower_transpose_solve n l.now y.old) result y.new }
 {
-    let s = solve_shapes(n, l.len(), y.len());
-    if refused(s) {
-        return s;
-    }
+    solve_shapes(n, l.len(), y.len())?;
     lower_transpose_solve_core(n, l, y);
-    s
+    Ok(())
 }
 
 // Y := L⁻ᵀ Y, with L of n rows and columns and Y of n rows and nrhs columns.
-pub fn lower_transpose_matsolve_inplace(n: usize, nrhs: usize, l: &[f64], y: &mut [f64]) -> Shaped
+pub fn lower_transpose_matsolve_inplace(
+    n: usize,
+    nrhs: usize,
+    l: &[f64],
+    y: &mut [f64],
+) -> Result<(), ShapeError>
     ensures { Answers (matsolve_verdict n nrhs (length l.now) (length y.old)) y.old (lower_transpose_matsolve n nrhs l.now y.old) result y.new }
 {
-    let s = matsolve_shapes(n, nrhs, l.len(), y.len());
-    if refused(s) {
-        return s;
-    }
+    matsolve_shapes(n, nrhs, l.len(), y.len())?;
     lower_transpose_matsolve_core(n, nrhs, l, y);
-    s
+    Ok(())
 }

@@ -1,9 +1,9 @@
 // The substitution where the lengths are known to be right, and the checks of the lengths.
-ghost use Rattle.std.specs.Prelude.{◌≡◌, ◌+◌, ◌*◌, ◌<◌, length};
+ghost use Rattle.std.specs.Prelude.{◌≡◌, ◌+◌, ◌*◌, ◌<◌, length, OnOk};
 ghost use Rattle.refusal.specs.Shaped.{told};
 ghost use Rattle.kernel_right.specs.Right.{right_less, lower_right_solve, right_verdict};
 
-use refusal::{Shaped, area, size, unchecked};
+use refusal::{ShapeError, area, size};
 use scalar::cores::{entry, store};
 
 // X := X L⁻¹, in each row the columns from the last to the first.
@@ -34,11 +34,13 @@ fn less_after(m: usize, n: usize, r: usize, j: usize, u: usize, l: &[f64], x: &[
 }
 
 // The shapes of a solve from the right.
-pub fn right_shapes(m: usize, n: usize, l: usize, x: usize) -> Shaped
-    ensures { told result ≡ right_verdict m n l x }
+#[tactic(auto, using(refusal::proofs::Laws::in_order), unfolding(crate::specs::Right::right_verdict))]
+pub fn right_shapes(m: usize, n: usize, l: usize, x: usize) -> Result<(), ShapeError>
+    ensures verdict { told result ≡ right_verdict m n l x }
+    ensures fits { OnOk result ((l ≡ n * n) × (x ≡ m * n)) }
 {
-    let s = size(unchecked(), 0, 0, m);
-    let s = size(s, 0, 1, n);
-    let s = area(s, 0, n, n, l);
-    area(s, 1, m, n, x)
+    size(0, 0, m)?;
+    size(0, 1, n)?;
+    area(0, n, n, l)?;
+    area(1, m, n, x)
 }

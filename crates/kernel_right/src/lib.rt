@@ -8,16 +8,18 @@ ghost use Rattle.refusal.specs.Shaped.{Answers};
 ghost use Rattle.kernel_right.specs.Right.{lower_right_solve, right_verdict};
 
 use crate::cores::{lower_right_solve_core, right_shapes};
-use refusal::{Shaped, refused};
+use refusal::ShapeError;
 
 // X := X L⁻¹, with L of n rows and columns and X of m rows and n columns.
-pub fn lower_right_solve_inplace(m: usize, n: usize, l: &[f64], x: &mut [f64]) -> Shaped
+pub fn lower_right_solve_inplace(
+    m: usize,
+    n: usize,
+    l: &[f64],
+    x: &mut [f64],
+) -> Result<(), ShapeError>
     ensures { Answers (right_verdict m n (length l.now) (length x.old)) x.old (lower_right_solve m n l.now x.old) result x.new }
 {
-    let s = right_shapes(m, n, l.len(), x.len());
-    if refused(s) {
-        return s;
-    }
+    right_shapes(m, n, l.len(), x.len())?;
     lower_right_solve_core(m, n, l, x);
-    s
+    Ok(())
 }

@@ -10,16 +10,18 @@ ghost use Rattle.kernel_right_transpose.specs.RightTranspose.{lower_transpose_ri
 
 use crate::cores::lower_transpose_rightsolve_core;
 use kernel_right::cores::right_shapes;
-use refusal::{Shaped, refused};
+use refusal::ShapeError;
 
 // X := X L⁻ᵀ, with L of n rows and columns and X of m rows and n columns.
-pub fn lower_transpose_rightsolve_inplace(m: usize, n: usize, l: &[f64], x: &mut [f64]) -> Shaped
+pub fn lower_transpose_rightsolve_inplace(
+    m: usize,
+    n: usize,
+    l: &[f64],
+    x: &mut [f64],
+) -> Result<(), ShapeError>
     ensures { Answers (right_verdict m n (length l.now) (length x.old)) x.old (lower_transpose_rightsolve m n l.now x.old) result x.new }
 {
-    let s = right_shapes(m, n, l.len(), x.len());
-    if refused(s) {
-        return s;
-    }
+    right_shapes(m, n, l.len(), x.len())?;
     lower_transpose_rightsolve_core(m, n, l, x);
-    s
+    Ok(())
 }

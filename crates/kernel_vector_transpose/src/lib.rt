@@ -3,12 +3,12 @@
 
 pub mod cores;
 
-ghost use Rattle.std.specs.Prelude.{◌≡◌, length};
+ghost use Rattle.std.specs.Prelude.{◌≡◌, length, ◌*◌, OnOk};
 ghost use Rattle.refusal.specs.Shaped.{told, Answers};
 ghost use Rattle.kernel_vector_transpose.specs.VectorTranspose.{sub_mat_transpose_plus_vec, transpose_verdict};
 
 use crate::cores::sub_mat_transpose_plus_vec_core;
-use refusal::{Shaped, area, refused, size, unchecked};
+use refusal::{ShapeError, area, size};
 
 // x := x - Aᵀ z, with x of n numbers, A of m rows and n columns, z of m numbers.
 pub fn sub_mat_transpose_plus_vec_in_place(
@@ -17,24 +17,23 @@ pub fn sub_mat_transpose_plus_vec_in_place(
     x: &mut [f64],
     mat_a: &[f64],
     z: &[f64],
-) -> Shaped
+) -> Result<(), ShapeError>
     ensures { Answers (transpose_verdict m n (length x.old) (length mat_a.now) (length z.now)) x.old (sub_mat_transpose_plus_vec m n x.old mat_a.now z.now) result x.new }
 {
-    let s = transpose_shapes(m, n, x.len(), mat_a.len(), z.len());
-    if refused(s) {
-        return s;
-    }
+    transpose_shapes(m, n, x.len(), mat_a.len(), z.len())?;
     sub_mat_transpose_plus_vec_core(m, n, x, mat_a, z);
-    s
+    Ok(())
 }
 
 // The shapes of a transposed block times a vector.
-fn transpose_shapes(m: usize, n: usize, x: usize, a: usize, z: usize) -> Shaped
-    ensures { told result ≡ transpose_verdict m n x a z }
+#[tactic(auto, using(refusal::proofs::Laws::in_order), unfolding(crate::specs::VectorTranspose::transpose_verdict))]
+fn transpose_shapes(m: usize, n: usize, x: usize, a: usize, z: usize) -> Result<(), ShapeError>
+    ensures verdict { told result ≡ transpose_verdict m n x a z }
+    ensures fits { OnOk result ((x ≡ n) × (a ≡ m * n) × (z ≡ m)) }
 {
-    let s = size(unchecked(), 0, 0, m);
-    let s = size(s, 0, 1, n);
-    let s = area(s, 0, n, 1, x);
-    let s = area(s, 1, m, n, a);
-    area(s, 2, m, 1, z)
+    size(0, 0, m)?;
+    size(0, 1, n)?;
+    area(0, n, 1, x)?;
+    area(1, m, n, a)?;
+    area(2, m, 1, z)
 }

@@ -17,7 +17,7 @@ use Rattle.graph.specs.Symbolic.{rows}
 use Rattle.graph.proofs.SumLaws.{length-gather}
 use Rattle.graph.proofs.SymbolicLaws.{rows_right, rows_ascending}
 use Rattle.graph.proofs.BoundLaws.{rows_short}
-use Rattle.buckets.proofs.Lists.{get_d_any, elem_at}
+use Rattle.buckets.proofs.Lists.{get_or_any, elem_at}
 use Rattle.buckets.proofs.Laws.{sum-snoc}
 use Rattle.order.proofs.Laws.{length_from, get_or-from}
 use Rattle.tables.specs.Search.{sum}
@@ -47,7 +47,7 @@ module _ (linked : ℕ → ℕ → Bool) (n : ℕ) (symm : (a b : ℕ) → T (li
       let f : ℕ → ℕ = λ k. list.sum (between 0 k) (λ c. length (rows linked n c)) in
       let l = length-map {A = ℕ} {B = ℕ} (from 0 (suc n)) f ∙ length_from 0 (suc n) in
       let z : 0 + k ≡ k = omega arith in
-      get_d_any (starts_of linked n) k 0 (f 0) (omega arith) ∙ get_or-map {A = ℕ} {B = ℕ} f (from 0 (suc n)) k 0
+      get_or_any (starts_of linked n) k 0 (f 0) (omega arith) ∙ get_or-map {A = ℕ} {B = ℕ} f (from 0 (suc n)) k 0
       ∙ ap f (get_or-from 0 (suc n) k (omega arith) ∙ z) ∙ ap (λ (m : ℕ). list.sum (from 0 m) (λ c. length (rows linked n c))) (nought k)
 
   start-next : (k : ℕ) → start (k + 1) ≡ start k + length (rows linked n k)

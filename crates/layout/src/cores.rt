@@ -8,11 +8,8 @@ pub fn square(sizes: &[u32], out: &mut [u32])
     requires by_index { (k : ℕ) → k < length sizes.now → slice_index sizes.now k ≤ 16 }
     ensures { out.new ≡ squares sizes.now }
 {
-    let mut k = 0;
-    while k < sizes.len() {
-        let size = sizes[k];
+    for (k, &size) in sizes.iter().enumerate() {
         out[k] = size * size;
-        k += 1;
     }
 }
 
@@ -21,13 +18,10 @@ pub fn widest_of(sizes: &[u32]) -> u32
     ensures { result ≡ widest sizes.now }
 {
     let mut most = 0;
-    let mut k = 0;
-    while k < sizes.len() {
-        let size = sizes[k];
+    for &size in sizes {
         if most < size {
             most = size;
         }
-        k += 1;
     }
     most
 }

@@ -18,7 +18,7 @@ use Rattle.graph.specs.Sets.{elem, from}
 use Rattle.graph.specs.Links.{rows_in}
 use Rattle.graph.specs.Order.{Permutes}
 use Rattle.graph.proofs.SetLaws.{true_of, false_of}
-use Rattle.buckets.proofs.Lists.{elem_at, get_d_any}
+use Rattle.buckets.proofs.Lists.{elem_at, get_or_any}
 use Rattle.scalar.specs.Scalar.{nought}
 use Rattle.scalar.specs.Block.{zeros}
 use Rattle.tables.specs.Search.{first}
@@ -52,7 +52,7 @@ module _ (n : ℕ) (order : List ℕ) (p : Permutes n order) where
       let o = at order i in
       let b = below_at n order p i h in
       let z : 0 + o ≡ o = omega arith in
-      get_d_any (map {A = ℕ} {B = ℕ} f (from 0 n)) o 0 (f 0) (omega (arith, l, b)) ∙ get_or-map {A = ℕ} {B = ℕ} f (from 0 n) o 0 ∙ ap f (get_or-from 0 n o b ∙ z)
+      get_or_any (map {A = ℕ} {B = ℕ} f (from 0 n)) o 0 (f 0) (omega (arith, l, b)) ∙ get_or-map {A = ℕ} {B = ℕ} f (from 0 n) o 0 ∙ ap f (get_or-from 0 n o b ∙ z)
       ∙ first-at (λ k. not (eqb (at order k) o)) 0 i n (omega arith) h
       (λ q a l. ap not (ne_eqb (at order q) o (λ e. let s = once-at order p.once q i (omega (arith, p.entries)) (omega (arith, p.entries)) e in absurd (omega arith))))
       (ap not (eq-eqb (at order i) o refl)))

@@ -11,7 +11,7 @@ use lib.Dec.{eqb}
 use lib.ListN.{length, length-map, get_or-map}
 use lib.Seq.{ext_get_or}
 use Rattle.graph.specs.Sets.{from}
-use Rattle.buckets.proofs.Lists.{get_d_any}
+use Rattle.buckets.proofs.Lists.{get_or_any}
 use Rattle.tables.specs.Search.{first}
 use Rattle.tables.specs.Verdict.{at}
 use Rattle.tables.proofs.SearchLaws.{first-at}
@@ -38,4 +38,4 @@ module _ (n : ℕ) (order inv : List ℕ) (ip : Inverse n order inv) where
       (λ o h.
       let h' : o < n = omega (arith, c) in
       let z : 0 + o ≡ o = omega arith in
-      sym (get_d_any (map {A = ℕ} {B = ℕ} f (from 0 n)) o 0 (f 0) (omega (arith, l)) ∙ get_or-map {A = ℕ} {B = ℕ} f (from 0 n) o 0 ∙ ap f (get_or-from 0 n o h' ∙ z) ∙ place_is o h'))
+      sym (get_or_any (map {A = ℕ} {B = ℕ} f (from 0 n)) o 0 (f 0) (omega (arith, l)) ∙ get_or-map {A = ℕ} {B = ℕ} f (from 0 n) o 0 ∙ ap f (get_or-from 0 n o h' ∙ z) ∙ place_is o h'))

@@ -46,13 +46,11 @@ pub fn marks(dims: &[u32], order: &[u32], d: &[f64], tol: f64, marks: &mut [u8])
     if n > 4096 {
         return Marked::Blocks;
     }
-    let k2 = first_dim(dims);
-    if k2 < n {
-        return Marked::Dimension { place: k2 };
+    if let Some(place) = first_dim(dims) {
+        return Marked::Dimension { place };
     }
-    let k8 = first_perm(order, n);
-    if k8 < n + 1 {
-        return Marked::Permutation { place: k8 };
+    if let Some(place) = first_perm(order, n) {
+        return Marked::Permutation { place };
     }
     if !is_tolerance(tol) {
         return Marked::Tolerance;

@@ -211,9 +211,8 @@ fn check_sizes(dims: &[u32], stored: usize, told: &mut [u64; 3]) -> u32
     if dims.len() > 4096 {
         return carry(told, 1, 0, 0, 0);
     }
-    let k = first_dim(dims);
-    if k < dims.len() {
-        return carry(told, 2, k as u64, 0, 0);
+    if let Some(place) = first_dim(dims) {
+        return carry(told, 2, place as u64, 0, 0);
     }
     if stored > 65536 {
         return carry(told, 4, 0, 0, 0);

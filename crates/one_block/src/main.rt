@@ -2,9 +2,9 @@
 // block, then a sensor with no evidence, then a NaN that lies under a dropped pivot, then a pivot that is not finite.
 #![tactic(auto)]
 
-use dense_ldlt::{Decomposed, ldlt_decompose_inplace};
+use dense_ldlt::ldlt_decompose_inplace;
 use dense_solve::ldlt_solve_inplace;
-use refusal::refused;
+use refusal::Refusal;
 
 const DIGITS: [u8; 16] = *b"0123456789ABCDEF";
 
@@ -28,26 +28,24 @@ fn main() {
 fn night(a: &mut [f64; 4], d: &mut [f64; 2], x: &mut [f64; 2]) {
     let outcome = ldlt_decompose_inplace(2, a, d, 1e-12);
     match outcome {
-        Decomposed::Accepted(r) => {
+        Ok(r) => {
             io::write_all(1, b"scalars 2 rank ");
             io::print_decimal(1, r.rank as u64);
             io::write_all(1, b"\n");
         }
-        Decomposed::Dimension { place: _ } => return refuse(2),
-        Decomposed::Tolerance => return refuse(10),
-        Decomposed::Mismatch { place: _ } => return refuse(12),
-        Decomposed::NotFinite { place: _, pivot: _ } => return refuse(13),
+        Err(refusal) => return refuse(refusal.number()),
     }
-    if refused(ldlt_solve_inplace(2, a, d, x)) {
-        return refuse(12);
+    let solved = ldlt_solve_inplace(2, a, d, x);
+    if let Err(refusal) = solved {
+        return refuse(refusal.number());
     }
     line(0, x[0], d[0]);
     line(1, x[1], d[1]);
 }
 
-fn refuse(number: u64) {
+fn refuse(number: u32) {
     io::write_all(1, b"refused ");
-    io::print_decimal(1, number);
+    io::print_decimal(1, number as u64);
     io::write_all(1, b"\n");
 }
 

@@ -14,15 +14,12 @@ fn keep(perm: &[u32], late: &[u32], flagged: bool, order: &mut [u32], at: usize)
     ensures order_after { order.new ≡ sets order.old at (group flagged late.now perm.now) }
 {
     let mut place = at;
-    let mut k = 0;
-    while k < perm.len() {
-        let block = perm[k];
+    for &block in perm {
         let is_late = late[block as usize] != 0;
         if is_late == flagged {
             order[place] = block;
             place += 1;
         }
-        k += 1;
     }
     place
 }
@@ -41,11 +38,8 @@ pub fn invert(order: &[u32], inverse: &mut [u32])
     requires { Permutes (length inverse.old) order.now × (length inverse.old ≤ 4096) }
     ensures { Inverse (length inverse.old) order.now inverse.new }
 {
-    let mut k = 0;
-    while k < order.len() {
-        let old = order[k] as usize;
-        inverse[old] = k as u32;
-        k += 1;
+    for (k, &old) in order.iter().enumerate() {
+        inverse[old as usize] = k as u32;
     }
 }
 
@@ -54,10 +48,7 @@ pub fn sizes(dims: &[u32], order: &mut [u32])
     requires { (k : ℕ) → k < length order.old → slice_index order.old k < length dims.now }
     ensures { order.new ≡ sizes_of dims.now order.old }
 {
-    let mut k = 0;
-    while k < order.len() {
-        let old = order[k] as usize;
-        order[k] = dims[old];
-        k += 1;
+    for old in order.iter_mut() {
+        *old = dims[*old as usize];
     }
 }

@@ -1,26 +1,28 @@
 -- What the plan answers where the tables or the needs refuse, and how a plan in the first places of longer buffers is one in the whole. Assumes nothing.
-use Rattle.std.specs.Prelude.{◌≡◌, ℕ, ◌+◌, ◌≤◌, Bool, true, false, cond, List, ◌++◌, length, get_or, take, drop, replicate}
+use Rattle.std.specs.Prelude.{◌≡◌, ℕ, ◌+◌, ◌≤◌, Bool, true, false, cond, List, ◌++◌, length, get_or, take, drop, Result, Ok, Err}
 use mathlib.Core.Bool.{false≢true}
-use mathlib.Core.Path.{sym, ap, subst, ◌∙◌}
+use mathlib.Core.Path.{refl, sym, ap, subst, ◌∙◌}
 use lib.ListN.{take-append-drop}
 use lib.Seq.{length-take-le}
-use Rattle.graph.specs.Order.{moved}
-use Rattle.graph.specs.Path as rule
+use Rattle.std.specs.Result.{IsErr, IsErrAnd, MatchResult, is_ok}
 use Rattle.graph.specs.Tree.{Parent}
-use Rattle.graph.specs.Symbolic as L
 use Rattle.refusal.specs.Refusal.{Told, done, refuses, verdict, verdict_after, after}
 use Rattle.refusal.proofs.Laws.{stays-refused, first-refuses}
-use Rattle.needs.specs.Needs.{need_checks}
+use Rattle.needs.specs.Needs.{need_checks, AllMet}
 use Rattle.tables.specs.Verdict.{plan_verdict}
+use Rattle.checks.specs.Outcome.{told_plan, told_plan_error}
+use Rattle.checks.specs.declared.PlanTablesError.{PlanTablesError}
 use Rattle.elimination_tree.specs.Tree.{decode, parents_of}
 use Rattle.analysis.specs.Plan.{starts_of}
-use Rattle.plan_core.specs.Plan.{told, Night, Places, blocks, links, first_list, plan_list, early, whole, Plans, Exact}
-use Rattle.plan_core.specs.declared.Planned.{Planned}
+use Rattle.plan_core.specs.Plan.{told, told_error, Night, Places, blocks, links, first_list, plan_list, early, whole, Plans}
+use Rattle.analysis.specs.declared.cores.Counts.{Counts}
+use Rattle.plan_core.specs.declared.PlanError.{PlanError}
+use Rattle.plan_core.specs.declared.PlanError.TheVariants.{Blocks, Dimension, Starts, Stored, Row, Order, Permutation, Late, Short}
 use Rattle.plan_core.proofs.Laws.{path_rule, all_products, liu-parents, exact}
 
 -- ---- refused before the plan: nothing is changed
 
-pub refused : (v : Told) (a : Night) (b : Places) (r : Planned) → told r ≡ v → refuses v ≡ true → Plans v a b r b
+pub refused : (v : Told) (a : Night) (b : Places) (r : Result Counts PlanError) → told r ≡ v → refuses v ≡ true → Plans v a b r b
 refused v a b r e stops =
     let w = whole v a b in
     let stays : w ≡ v = stays-refused v (need_checks (plan_list a b)) stops in
@@ -46,18 +48,50 @@ refused v a b r e stops =
       products = all_products a;
     }
 
--- the tables are refused, and so is the call, in the same words
-pub tables_refused : (a : Night) (b : Places) (r : Planned) → refuses (told r) ≡ true → told r ≡ plan_verdict a.dims a.starts a.rows a.perm a.late → Plans (early a b) a b r b
-unfolding early
-tables_refused a b r stops e =
-    let checks = need_checks (first_list a b) in
-    let stays : early a b ≡ told r = ap (λ (t : Told). verdict_after t checks) (sym e) ∙ stays-refused (told r) checks stops in
-    refused (early a b) a b r (sym stays) (ap refuses stays ∙ stops)
+-- each error is a refusal
+error-refuses : (e : PlanError) → refuses (told_error e) ≡ true
+error-refuses Blocks = refl
+error-refuses (Dimension place) = refl
+error-refuses (Starts place) = refl
+error-refuses Stored = refl
+error-refuses (Row place) = refl
+error-refuses (Order place) = refl
+error-refuses (Permutation place) = refl
+error-refuses (Late place) = refl
+error-refuses (Short which need) = refl
 
--- the tables pass, and the needs decide
-pub tables-passed : (a : Night) (b : Places) → done ≡ plan_verdict a.dims a.starts a.rows a.perm a.late → verdict (need_checks (first_list a b)) ≡ early a b
+-- the tables are refused, and so is the call, in the same words
+pub tables_refused : (a : Night) (b : Places) (s : Result Unit PlanTablesError) (m : Result Unit PlanError) (e : PlanError) (r : Result Counts PlanError) →
+    MatchResult s (λ w. m ≡ Ok w) (λ t. IsErrAnd m (λ f. told_error f ≡ told_plan_error t)) → m ≡ Err e → IsErr r × IsErrAnd r (λ f. f ≡ e) →
+    told_plan s ≡ plan_verdict a.dims a.starts a.rows a.perm a.late → Plans (early a b) a b r b
 unfolding early
-tables-passed a b e = ap (λ (t : Told). verdict_after t (need_checks (first_list a b))) e
+tables_refused a b s m e (Ok x) q is p t = absurd (false≢true p.0)
+tables_refused a b (Ok w) m e (Err r) q is p t = absurd (false≢true (ap is_ok (sym is ∙ q)))
+tables_refused a b (Err u) (Ok w) e (Err r) q is p t = absurd q
+tables_refused a b (Err u) (Err f) e (Err r) q is p t =
+    let handed : r ≡ f = cc (p.1) in
+    let same : told_error r ≡ plan_verdict a.dims a.starts a.rows a.perm a.late = ap told_error handed ∙ q ∙ t in
+    let checks = need_checks (first_list a b) in
+    let stops : refuses (told_error r) ≡ true = error-refuses r in
+    let stays : early a b ≡ told_error r = ap (λ (t : Told). verdict_after t checks) (sym same) ∙ stays-refused (told_error r) checks stops in
+    refused (early a b) a b (Err r) (sym stays) (ap refuses stays ∙ stops)
+
+-- the needs refuse, and so does the call
+pub needs-refused : (a : Night) (b : Places) (v : Told) (e : PlanError) (r : Result Counts PlanError) → IsErr r × IsErrAnd r (λ f. f ≡ e) → told_error e ≡ v → Plans v a b r b
+needs-refused a b v e (Ok x) p t = absurd (false≢true p.0)
+needs-refused a b v e (Err r) p t =
+    let same : told_error r ≡ v = ap told_error p.1 ∙ t in
+    refused v a b (Err r) same (ap refuses (sym same) ∙ error-refuses r)
+
+-- the tables pass
+pub tables_pass : (s : Result Unit PlanTablesError) (v : Told) → told_plan s ≡ v → true ≡ is_ok s → done ≡ v
+tables_pass (Ok w) v t e = t
+tables_pass (Err u) v t e = absurd (false≢true (sym e))
+
+-- they do, and the needs decide
+pub tables-passed : (a : Night) (b : Places) (r : Result Counts PlanError) (b' : Places) → done ≡ plan_verdict a.dims a.starts a.rows a.perm a.late → Plans (verdict (need_checks (first_list a b))) a b r b' → Plans (early a b) a b r b'
+unfolding early
+tables-passed a b r b' e p = subst (λ (t : Told). Plans (verdict_after t (need_checks (first_list a b))) a b r b') e p
 
 -- ---- in the first places of longer buffers
 
@@ -104,7 +138,7 @@ joined a b c = record {
 }
 
 -- each need that is known without the plan is met
-pub record Roomy (a : Night) (b : Places) : Type 0 where
+record Roomy (a : Night) (b : Places) : Type 0 where
   pub order : blocks a ≤ length b.order
   pub parents : blocks a ≤ length b.parents
   pub l_starts : blocks a + 1 ≤ length b.l_starts
@@ -117,43 +151,44 @@ pub record Roomy (a : Night) (b : Places) : Type 0 where
   pub table : length a.rows ≤ length b.table
   pub upper : length a.rows ≤ length b.upper
 
-pub fronts-exact : (a : Night) (b : Places) → Roomy a b → Exact a (fronts a b)
-fronts-exact a b m = record {
-  order = length-take-le (blocks a) b.order m.order;
-  parents = length-take-le (blocks a) b.parents m.parents;
-  l_starts = length-take-le (blocks a + 1) b.l_starts m.l_starts;
-  inverse = length-take-le (blocks a) b.inverse m.inverse;
-  sizes = length-take-le (blocks a) b.sizes m.sizes;
-  count = length-take-le (blocks a) b.count m.count;
-  heads = length-take-le (blocks a + 1) b.heads m.heads;
-  into = length-take-le (blocks a + 1) b.into m.into;
-  stamps = length-take-le (blocks a) b.stamps m.stamps;
-  table = length-take-le (length a.rows) b.table m.table;
-  upper = length-take-le (length a.rows) b.upper m.upper;
+roomy : (a : Night) (b : Places) → AllMet (first_list a b) → Roomy a b
+roomy a b q = record {
+  order = q.0;
+  parents = q.1.0;
+  l_starts = q.1.1.0;
+  inverse = q.1.1.1.1.0;
+  sizes = q.1.1.1.1.1.0;
+  count = q.1.1.1.1.1.1.0;
+  heads = q.1.1.1.1.1.1.1.0;
+  into = q.1.1.1.1.1.1.1.1.0;
+  stamps = q.1.1.1.1.1.1.1.1.1.0;
+  table = q.1.1.1.1.1.1.1.1.1.1.0;
+  upper = q.1.1.1.1.1.1.1.1.1.1.1.0;
 }
 
 -- a plan in the first places is a plan
-pub lengthened : (v : Told) (a : Night) (b : Places) (r : Planned) (c : Places) → v ≡ done → blocks a ≤ 4096 → Roomy a b → Plans done a (fronts a b) r c → Plans v a b r (joined a b c)
-lengthened v a b r c passed few m q =
+pub lengthened : (v : Told) (a : Night) (b : Places) (r : Result Counts PlanError) (c : Places) → v ≡ done → blocks a ≤ 4096 → AllMet (first_list a b) → Plans done a (fronts a b) r c → Plans v a b r (joined a b c)
+lengthened v a b r c passed few all q =
+    let m = roomy a b all in
     subst (λ (t : Told). Plans t a b r (joined a b c)) (sym passed)
     (record {
       outcome = q.outcome;
-      order = lifted (whole done a b) (blocks a) b.order (moved a.perm a.late) c.order m.order q.order;
+      order = lifted (whole done a b) _ _ _ _ m.order q.order;
       parents = tree;
-      l_starts = lifted (whole done a b) (blocks a + 1) b.l_starts (starts_of (links a) (blocks a)) c.l_starts m.l_starts q.l_starts;
+      l_starts = lifted (whole done a b) _ _ (starts_of (links a) (blocks a)) _ m.l_starts q.l_starts;
       l_rows = q.l_rows;
-      inverse = lifted done (blocks a) b.inverse (replicate (blocks a) 0) c.inverse m.inverse q.inverse;
-      sizes = lifted done (blocks a) b.sizes (replicate (blocks a) 0) c.sizes m.sizes q.sizes;
-      count = lifted done (blocks a) b.count (replicate (blocks a) 0) c.count m.count q.count;
-      heads = lifted done (blocks a + 1) b.heads (replicate (blocks a + 1) 0) c.heads m.heads q.heads;
-      into = lifted done (blocks a + 1) b.into (replicate (blocks a + 1) 0) c.into m.into q.into;
-      stamps = lifted done (blocks a) b.stamps (replicate (blocks a) 0) c.stamps m.stamps q.stamps;
-      table = lifted done (length a.rows) b.table (replicate (length a.rows) 0) c.table m.table q.table;
-      upper = lifted done (length a.rows) b.upper (replicate (length a.rows) 0) c.upper m.upper q.upper;
+      inverse = lifted done _ _ _ _ m.inverse q.inverse;
+      sizes = lifted done _ _ _ _ m.sizes q.sizes;
+      count = lifted done _ _ _ _ m.count q.count;
+      heads = lifted done _ _ _ _ m.heads q.heads;
+      into = lifted done _ _ _ _ m.into q.into;
+      stamps = lifted done _ _ _ _ m.stamps q.stamps;
+      table = lifted done _ _ _ _ m.table q.table;
+      upper = lifted done _ _ _ _ m.upper q.upper;
       liu = λ passes k h. subst (λ (t : List ℕ). Parent (links a) (blocks a) k (decode (get_or t k 0))) (sym (tree ∙ ap (λ (t : Bool). cond t b.parents (parents_of (links a) (blocks a) ++ drop (blocks a) b.parents)) passes)) (liu-parents a (drop (blocks a) b.parents) few k h);
       path = path_rule a;
       products = all_products a;
     })
   where
     tree : c.parents ++ drop (blocks a) b.parents ≡ after (whole done a b) b.parents (parents_of (links a) (blocks a) ++ drop (blocks a) b.parents)
-    tree = lifted (whole done a b) (blocks a) b.parents (parents_of (links a) (blocks a)) c.parents m.parents q.parents
+    tree = lifted (whole done a b) _ _ _ _ (roomy a b all).parents q.parents

@@ -9,7 +9,8 @@ ghost use Rattle.plan_core.specs.Plan.{night, places};
 ghost use Rattle.plan_core.specs.Plan as plan;
 ghost use Rattle.plan_abi.specs.Number.{Exports};
 
-use plan::Planned;
+use plan::{Counts, PlanError};
+use refusal::number_of;
 use report::carry;
 
 // The plan: `plan::plan`. Accepted, `told` has L's blocks, L's numbers and the products; refused, the place, or the buffer and its
@@ -45,19 +46,21 @@ pub extern "C" fn beyqaloosh_plan(
 }
 
 // The number of an outcome, and what it carries.
-fn tell(p: Planned, told: &mut [u64; 3]) -> u32
+fn tell(p: Result<Counts, PlanError>, told: &mut [u64; 3]) -> u32
     ensures { (result ≡ refusal.number (plan.told p)) × (told.new ≡ carried (plan.told p)) }
 {
+    let number = number_of(&p);
     match p {
-        Planned::Accepted(c) => carry(told, 0, c.stored as u64, c.numbers as u64, c.products),
-        Planned::Blocks => carry(told, 1, 0, 0, 0),
-        Planned::Dimension { place } => carry(told, 2, place as u64, 0, 0),
-        Planned::Starts { place } => carry(told, 3, place as u64, 0, 0),
-        Planned::Stored => carry(told, 4, 0, 0, 0),
-        Planned::Row { place } => carry(told, 5, place as u64, 0, 0),
-        Planned::Order { place } => carry(told, 6, place as u64, 0, 0),
-        Planned::Permutation { place } => carry(told, 8, place as u64, 0, 0),
-        Planned::Late { place } => carry(told, 9, place as u64, 0, 0),
-        Planned::Short { which, need } => carry(told, 11, which as u64, need as u64, 0),
+        Ok(c) => carry(told, number, c.stored as u64, c.numbers as u64, c.products),
+        Err(PlanError::Blocks | PlanError::Stored) => carry(told, number, 0, 0, 0),
+        Err(
+            PlanError::Dimension { place }
+            | PlanError::Starts { place }
+            | PlanError::Row { place }
+            | PlanError::Order { place }
+            | PlanError::Permutation { place }
+            | PlanError::Late { place },
+        ) => carry(told, number, place as u64, 0, 0),
+        Err(PlanError::Short { which, need }) => carry(told, number, which as u64, need as u64, 0),
     }
 }

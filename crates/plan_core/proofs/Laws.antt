@@ -1,10 +1,10 @@
 -- What the plan answers where the tables have passed, in buffers that have exactly their needs. Assumes nothing.
-use Rattle.std.specs.Prelude.{◌≡◌, ℕ, ◌+◌, ◌<◌, ◌≤◌, Bool, true, cond, T, ◌↔◌, List, [], ◌++◌, length, get_or, take, drop, replicate}
+use Rattle.std.specs.Prelude.{◌≡◌, ℕ, ◌+◌, ◌<◌, ◌≤◌, Bool, true, cond, T, ◌↔◌, List, [], ◌++◌, length, get_or, take, drop, replicate, Result}
 use mathlib.Core.Bool.{false≢true}
 use mathlib.Core.List.{append-nil}
 use mathlib.Core.Path.{sym, ap, subst, ◌∙◌}
 use native.Mathlib.Omega.{arith}
-use lib.ListN.{take-append-drop, drop_of_length-le, length-append}
+use lib.ListN.{drop_of_length-le}
 use lib.Seq.{length-take-le}
 use Rattle.graph.specs.Sets.{elem}
 use Rattle.graph.specs.Links.{rows_in}
@@ -26,7 +26,8 @@ use Rattle.analysis.specs.Plan.{stored_of, products_in, starts_of, rows_of, Read
 use Rattle.analysis.specs.declared.cores.Analysis.{Analysis}
 use Rattle.analysis.proofs.Same.{same-columns, same-stored, same-starts, same-l-rows, tree_of}
 use Rattle.plan_core.specs.Plan.{told, Night, Places, blocks, links, whole, answer, Plans, Exact}
-use Rattle.plan_core.specs.declared.Planned.{Planned}
+use Rattle.analysis.specs.declared.cores.Counts.{Counts}
+use Rattle.plan_core.specs.declared.PlanError.{PlanError}
 
 -- ---- the theory, of any night
 
@@ -96,10 +97,6 @@ exact n xs new e = let h : length xs ≤ n = omega arith in sym (ap (λ (l : Lis
 pub zero_of : {n m : ℕ} {xs : List ℕ} → xs ≡ replicate m 0 → m ≡ n → xs ≡ replicate n 0
 zero_of e f = e ∙ ap (λ (k : ℕ). replicate k 0) f
 
--- a front that was changed in place leaves the length
-pub join-length : (n : ℕ) (xs ys : List ℕ) → n ≤ length xs → length ys ≡ length (take n xs) → length (ys ++ drop n xs) ≡ length xs
-join-length n xs ys le e = length-append ys (drop n xs) ∙ (ap (λ (k : ℕ). k + length (drop n xs)) e ∙ (sym (length-append (take n xs) (drop n xs)) ∙ ap {A = List ℕ} length (take-append-drop n xs)))
-
 -- the scratch afterwards
 pub record Zeros (a : Night) (b : Places) : Type 0 where
   pub inverse : b.inverse ≡ replicate (blocks a) 0
@@ -111,7 +108,7 @@ pub record Zeros (a : Night) (b : Places) : Type 0 where
   pub table : b.table ≡ replicate (length a.rows) 0
   pub upper : b.upper ≡ replicate (length a.rows) 0
 
-module _ (a : Night) (b b' : Places) (r : Planned) (x : Exact a b) (z : Zeros a b') where
+module _ (a : Night) (b b' : Places) (r : Result Counts PlanError) (x : Exact a b) (z : Zeros a b') where
   -- L's row table is too short
   pub row-table-short : length b.l_rows < stored_of (links a) (blocks a) → told r ≡ short_buffer 3 (stored_of (links a) (blocks a))
       → b'.order ≡ b.order → b'.parents ≡ b.parents → b'.l_starts ≡ b.l_starts → b'.l_rows ≡ b.l_rows → Plans done a b r b'

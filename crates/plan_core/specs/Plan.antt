@@ -1,5 +1,5 @@
 -- What `plan::plan` answers, and what it leaves in every lent place, for any arguments. Assumes nothing.
-use Rattle.std.specs.Prelude.{◌≡◌, ℕ, ◌+◌, ◌<◌, Bool, false, T, ◌↔◌, List, [], ◌∷◌, ◌++◌, length, drop, replicate, slice_index}
+use Rattle.std.specs.Prelude.{◌≡◌, ℕ, ◌+◌, ◌<◌, Bool, false, T, ◌↔◌, List, [], ◌∷◌, ◌++◌, length, drop, replicate, slice_index, Result}
 use Rattle.graph.specs.Sets.{elem}
 use Rattle.graph.specs.Links.{linked_of}
 use Rattle.graph.specs.Order.{moved}
@@ -7,28 +7,32 @@ use Rattle.graph.specs.Count.{triples}
 use Rattle.graph.specs.Path as rule
 use Rattle.graph.specs.Tree.{Parent}
 use Rattle.graph.specs.Symbolic as L
-use Rattle.refusal.specs.Refusal.{Told, accepted, too_many_blocks, bad_dimension, bad_starts, too_many_stored, out_of_range, not_increasing, bad_permutation, bad_late_flags, short_buffer, refuses, first_of, verdict_after, after}
+use Rattle.refusal.specs.Refusal.{Told, told_by, accepted, too_many_blocks, bad_dimension, bad_starts, too_many_stored, out_of_range, not_increasing, bad_permutation, bad_late_flags, short_buffer, refuses, first_of, verdict_after, after}
 use Rattle.needs.specs.Needs.{Lent, lent_from, need_checks}
 use Rattle.tables.specs.Verdict.{plan_verdict}
 use Rattle.elimination_tree.specs.Tree.{decode, parents_of}
 use Rattle.order.specs.Order.{sizes_of}
 use Rattle.symbolic.specs.Columns.{numbers_of}
 use Rattle.analysis.specs.Plan.{stored_of, products_in, starts_of, rows_of}
-use Rattle.plan_core.specs.declared.Planned.{Planned}
-use Rattle.plan_core.specs.declared.Planned.TheVariants.{Accepted, Blocks, Dimension, Starts, Stored, Row, Order, Permutation, Late, Short}
+pub use Rattle.analysis.specs.declared.cores.Counts.{Counts}
+use Rattle.plan_core.specs.declared.PlanError.{PlanError}
+use Rattle.plan_core.specs.declared.PlanError.TheVariants.{Blocks, Dimension, Starts, Stored, Row, Order, Permutation, Late, Short}
 
--- document 01's number and values for each case; an accepted plan hands back L's blocks, L's numbers and the block products
-abbrev pub told : Planned → Told
-told (Accepted c) = accepted (c.stored ∷ c.numbers ∷ c.products ∷ []) []
-told Blocks = too_many_blocks
-told (Dimension place) = bad_dimension place
-told (Starts place) = bad_starts place
-told Stored = too_many_stored
-told (Row place) = out_of_range place
-told (Order place) = not_increasing place
-told (Permutation place) = bad_permutation place
-told (Late place) = bad_late_flags place
-told (Short which need) = short_buffer which need
+-- document 01's number and values for each case
+abbrev pub told_error : PlanError → Told
+told_error Blocks = too_many_blocks
+told_error (Dimension place) = bad_dimension place
+told_error (Starts place) = bad_starts place
+told_error Stored = too_many_stored
+told_error (Row place) = out_of_range place
+told_error (Order place) = not_increasing place
+told_error (Permutation place) = bad_permutation place
+told_error (Late place) = bad_late_flags place
+told_error (Short which need) = short_buffer which need
+
+-- an accepted plan hands back L's blocks, L's numbers and the block products
+abbrev pub told : Result Counts PlanError → Told
+told = told_by (λ c. accepted (c.stored ∷ c.numbers ∷ c.products ∷ []) []) told_error
 
 -- what is handed in
 pub record Night : Type 0 where
@@ -118,7 +122,7 @@ cleared n xs = replicate n 0 ++ drop n xs
 
 -- under an early verdict v: outputs are as they were where the call refuses, and scratch where v refuses; else outputs have the plan,
 -- and scratch is zeros. Places beyond a need are as they were.
-pub record Plans (v : Told) (a : Night) (b : Places) (r : Planned) (b' : Places) : Type 0 where
+pub record Plans (v : Told) (a : Night) (b : Places) (r : Result Counts PlanError) (b' : Places) : Type 0 where
   pub outcome : told r ≡ first_of (whole v a b) (answer a)
   -- the outputs
   pub order : b'.order ≡ after (whole v a b) b.order (moved a.perm a.late ++ drop (blocks a) b.order)

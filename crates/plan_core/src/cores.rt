@@ -4,10 +4,12 @@ ghost use Rattle.refusal.specs.Refusal.{done};
 ghost use Rattle.tables.specs.Sound.{PlanSound};
 ghost use Rattle.plan_core.specs.Plan.{night, places, Plans, Exact};
 
-use crate::Planned;
+use crate::PlanError;
+use analysis::cores::Counts;
 use scratch::cores::clear_plan;
 
-// The tree and the counts in scratch, then the need of L's row table, then the outputs.
+// The tree and the counts in scratch, then the need of L's row table, then the outputs. Accepted, L's blocks below the diagonal, L's
+// numbers, and the block products that make it.
 pub fn planned_core(
     dims: &[u32],
     starts: &[u32],
@@ -26,7 +28,7 @@ pub fn planned_core(
     stamps: &mut [u32],
     table: &mut [u32],
     upper: &mut [u32],
-) -> Planned
+) -> Result<Counts, PlanError>
     requires plan_sound { PlanSound dims.now starts.now rows.now perm.now late.now }
     requires exact { Exact (night dims.now starts.now rows.now perm.now late.now) (places order.old parents.old l_starts.old l_rows.old inverse.old sizes.old count.old heads.old into.old stamps.old table.old upper.old) }
     ensures { Plans done (night dims.now starts.now rows.now perm.now late.now) (places order.old parents.old l_starts.old l_rows.old inverse.old sizes.old count.old heads.old into.old stamps.old table.old upper.old) result (places order.new parents.new l_starts.new l_rows.new inverse.new sizes.new count.new heads.new into.new stamps.new table.new upper.new) }
@@ -39,7 +41,7 @@ pub fn planned_core(
     let need = counts.stored;
     if l_rows.len() < need {
         clear_plan(inverse, sizes, count, heads, into, stamps, table, upper);
-        return Planned::Short { which: 3, need };
+        return Err(PlanError::Short { which: 3, need });
     }
     analysis::cores::store(
         into,
@@ -54,5 +56,5 @@ pub fn planned_core(
     order::cores::move_late(perm, late, order);
     buckets::cores::copy(heads, parents);
     clear_plan(inverse, sizes, count, heads, into, stamps, table, upper);
-    Planned::Accepted(counts)
+    Ok(counts)
 }

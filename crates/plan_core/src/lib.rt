@@ -1,15 +1,15 @@
-// The outcome of a plan, the whole promise of it, and the plan in buffers that have exactly their needs.
+// The refusals of a plan, the whole promise of it, and the plan in buffers that have exactly their needs.
 #![tactic(auto)]
 
 pub mod cores;
 
-use analysis::cores::Counts;
+ghost use Rattle.plan_core.specs.Plan.{told_error};
 
-// The outcome of `plan`.
-#[derive(Clone, Copy)]
-pub enum Planned {
-    // L's blocks below the diagonal, L's numbers, and the block products that make it.
-    Accepted(Counts),
+use refusal::Refusal;
+
+// The refusals of `plan`.
+#[derive(Clone, Copy, Debug, PartialEq, Eq)]
+pub enum PlanError {
     // 1
     Blocks,
     // 2: the block.
@@ -28,4 +28,22 @@ pub enum Planned {
     Late { place: usize },
     // 11: which lent buffer, counted from 0 in the order of the call, and its need.
     Short { which: usize, need: usize },
+}
+
+impl Refusal for PlanError {
+    ghost told = { told_error };
+
+    fn number(&self) -> u32 {
+        match self {
+            PlanError::Blocks => 1,
+            PlanError::Dimension { place: _ } => 2,
+            PlanError::Starts { place: _ } => 3,
+            PlanError::Stored => 4,
+            PlanError::Row { place: _ } => 5,
+            PlanError::Order { place: _ } => 6,
+            PlanError::Permutation { place: _ } => 8,
+            PlanError::Late { place: _ } => 9,
+            PlanError::Short { which: _, need: _ } => 11,
+        }
+    }
 }

@@ -3,12 +3,10 @@
 ghost use Rattle.std.specs.Prelude.{◌≡◌, ◌≤◌, length};
 
 use crate::told::{matches, of_plan, of_system};
-use bits::number;
-use word_list::lent::{all, mark, output, scratch};
-use word_list::room::{BLOCKS, STORED, blocks, held, lent_blocks, lent_stored, stored};
-use word_list::tally::sum;
-use word_list::words;
-use word_list::words::{size, whole};
+use word_list::cases::{BadList, Case};
+use word_list::entry::{Entry, float};
+use word_list::lent::{lent, output, scratch, table};
+use word_list::room::{BLOCKS, STORED, held};
 
 // The room for a table of L's blocks, and for values.
 const L_ROWS: usize = 131072;
@@ -18,36 +16,20 @@ const VALUES: usize = 4096;
 // The kind of a check of a system.
 const SYSTEM: usize = 14;
 
-// What a turn at the list comes to.
-#[derive(Clone, Copy)]
-pub enum Turn {
-    // The word that ends the list.
-    End,
-    // The input ends early, or a case does not fit.
-    Bad,
-    Right { kind: usize },
-    Wrong { kind: usize },
-}
-
-// Reads the next case and judges it.
-pub fn next() -> Turn {
-    let first = words::next();
-    if !first.is {
-        return Turn::Bad;
-    }
-    let kind = size(first.value);
+// Reads the next case and judges it; none is the word that ends the list. A list is bad where the input ends early or a case does not fit.
+pub fn next() -> Result<Option<Case>, BadList> {
+    let Some(first) = u32::next() else {
+        return Err(BadList {});
+    };
+    let kind = first as usize;
     if kind == 0 {
-        return Turn::End;
+        return Ok(None);
     }
-    let mut h = [0u32; 26];
-    words::read(&mut h, 26);
+    let h: [u32; 26] = table(26);
     if !fits(kind, &h) {
-        return Turn::Bad;
+        return Err(BadList {});
     }
-    if judge(kind, &h) {
-        return Turn::Right { kind };
-    }
-    Turn::Wrong { kind }
+    Ok(Some(Case::one(kind, judge(kind, &h))))
 }
 
 fn judge(kind: usize, h: &[u32; 26]) -> bool {
@@ -60,7 +42,7 @@ fn judge(kind: usize, h: &[u32; 26]) -> bool {
 // Whether the tables and buffers of a case have room.
 fn fits(kind: usize, h: &[u32; 26]) -> bool {
     for k in 0..lengths(kind) {
-        if size(h[k]) > room(k) {
+        if h[k] as usize > room(k) {
             return false;
         }
     }
@@ -83,15 +65,6 @@ fn room(k: usize) -> usize {
     }
 }
 
-// A buffer of L's blocks, marked.
-fn lent_l() -> [u32; 131072]
-    ensures { 131072 ≡ length result }
-{
-    let mut x = [0u32; 131072];
-    mark(&mut x);
-    x
-}
-
 // A plan: its tables are the next words of the list.
 fn planned(h: &[u32; 26]) -> bool {
     let k0 = held(h[0], BLOCKS);
@@ -99,11 +72,11 @@ fn planned(h: &[u32; 26]) -> bool {
     let k2 = held(h[2], STORED);
     let k3 = held(h[3], BLOCKS);
     let k4 = held(h[4], BLOCKS);
-    let dims = blocks(k0);
-    let starts = blocks(k1);
-    let rows = stored(k2);
-    let perm = blocks(k3);
-    let late = blocks(k4);
+    let dims: [u32; 4112] = table(k0);
+    let starts: [u32; 4112] = table(k1);
+    let rows: [u32; 65552] = table(k2);
+    let perm: [u32; 4112] = table(k3);
+    let late: [u32; 4112] = table(k4);
     lending(
         h,
         &dims[..k0],
@@ -135,18 +108,18 @@ fn lending(
     let k14 = held(h[14], BLOCKS);
     let k15 = held(h[15], STORED);
     let k16 = held(h[16], STORED);
-    let mut order = lent_blocks();
-    let mut parents = lent_blocks();
-    let mut l_starts = lent_blocks();
-    let mut l_rows = lent_l();
-    let mut inverse = lent_blocks();
-    let mut sizes = lent_blocks();
-    let mut count = lent_blocks();
-    let mut heads = lent_blocks();
-    let mut into = lent_blocks();
-    let mut stamps = lent_blocks();
-    let mut table = lent_stored();
-    let mut upper = lent_stored();
+    let mut order: [u32; 4112] = lent();
+    let mut parents: [u32; 4112] = lent();
+    let mut l_starts: [u32; 4112] = lent();
+    let mut l_rows: [u32; 131072] = lent();
+    let mut inverse: [u32; 4112] = lent();
+    let mut sizes: [u32; 4112] = lent();
+    let mut count: [u32; 4112] = lent();
+    let mut heads: [u32; 4112] = lent();
+    let mut into: [u32; 4112] = lent();
+    let mut stamps: [u32; 4112] = lent();
+    let mut table: [u32; 65552] = lent();
+    let mut upper: [u32; 65552] = lent();
     let p = plan::plan(
         dims,
         starts,
@@ -171,7 +144,7 @@ fn lending(
     let clear_blocks = scratch_blocks(h, &inverse, &sizes, &count, &stamps);
     let clear_starts = scratch_starts(h, &heads, &into);
     let clear_stored = scratch_stored(h, &table, &upper);
-    all(answered, written, clear_blocks, clear_starts, clear_stored)
+    answered && written && clear_blocks && clear_starts && clear_stored
 }
 
 // Whether the outputs hold what the list says, and beyond it their marks: all of them where it says nothing.
@@ -182,13 +155,13 @@ fn outputs(
     l_starts: &[u32; 4112],
     l_rows: &[u32; 131072],
 ) -> bool {
-    let starts = size(h[25]);
-    let blocks = if starts == 0 { 0 } else { size(h[0]) };
+    let starts = h[25] as usize;
+    let blocks = if starts == 0 { 0 } else { h[0] as usize };
     let a = output(order, blocks);
     let b = output(parents, blocks);
     let c = output(l_starts, starts);
-    let d = output(l_rows, size(h[21]));
-    all(a, b, c, d, true)
+    let d = output(l_rows, h[21] as usize);
+    a && b && c && d
 }
 
 // How many places of a scratch buffer end as 0: its need where the list says so, else none.
@@ -203,28 +176,22 @@ fn scratch_blocks(
     count: &[u32; 4112],
     stamps: &[u32; 4112],
 ) -> bool {
-    let need = cleared(h, size(h[0]));
+    let need = cleared(h, h[0] as usize);
     let a = scratch(inverse, need);
     let b = scratch(sizes, need);
     let c = scratch(count, need);
     let d = scratch(stamps, need);
-    all(a, b, c, d, true)
+    a && b && c && d
 }
 
 fn scratch_starts(h: &[u32; 26], heads: &[u32; 4112], into: &[u32; 4112]) -> bool {
-    let need = cleared(h, sum(size(h[0]), 1));
-    if !scratch(heads, need) {
-        return false;
-    }
-    scratch(into, need)
+    let need = cleared(h, h[0] as usize + 1);
+    scratch(heads, need) && scratch(into, need)
 }
 
 fn scratch_stored(h: &[u32; 26], table: &[u32; 65552], upper: &[u32; 65552]) -> bool {
-    let need = cleared(h, size(h[2]));
-    if !scratch(table, need) {
-        return false;
-    }
-    scratch(upper, need)
+    let need = cleared(h, h[2] as usize);
+    scratch(table, need) && scratch(upper, need)
 }
 
 // A check of a system: the count of values at 5, the tolerance at 6 and 7.
@@ -235,13 +202,13 @@ fn system(h: &[u32; 26]) -> bool {
     let k3 = held(h[3], BLOCKS);
     let k4 = held(h[4], BLOCKS);
     let k5 = held(h[5], VALUES);
-    let dims = blocks(k0);
-    let starts = blocks(k1);
-    let rows = blocks(k2);
-    let perm = blocks(k3);
-    let late = blocks(k4);
+    let dims: [u32; 4112] = table(k0);
+    let starts: [u32; 4112] = table(k1);
+    let rows: [u32; 4112] = table(k2);
+    let perm: [u32; 4112] = table(k3);
+    let late: [u32; 4112] = table(k4);
     let values = [0.0; 4096];
-    let tolerance = number(whole(h[6], h[7]));
+    let tolerance = float(h[6], h[7]);
     let s = checks::check_system(
         &dims[..k0],
         &starts[..k1],

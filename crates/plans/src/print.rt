@@ -1,17 +1,35 @@
 // What the program writes.
 use io::{print_decimal, write_all};
 use word_list::print::{counts, verdict};
-use word_list::tally::total;
+use word_list::tally::Tally;
 
 const STDOUT: i32 = 1;
 
+// The kinds from 1 on.
+const NAMES: [&[u8]; 14] = [
+    b"random",
+    b"chain",
+    b"hub",
+    b"arrow",
+    b"dense",
+    b"grid",
+    b"no links",
+    b"late flags",
+    b"few blocks",
+    b"at the limits",
+    b"one fault",
+    b"two faults",
+    b"lent buffers",
+    b"check of a system",
+];
+
 // A line for each kind, one for all, and the verdict.
-pub fn summary(cases: &[usize; 16], right: &[usize; 16]) {
+pub fn summary(tally: &Tally<16>) {
     for kind in 1..15usize {
         name(kind);
-        counts(cases[kind], right[kind]);
+        counts(tally.counts[kind]);
     }
-    verdict(total(cases), total(right));
+    verdict(tally.total());
 }
 
 pub fn wrong(k: u64, kind: usize) {
@@ -22,33 +40,8 @@ pub fn wrong(k: u64, kind: usize) {
     write_all(STDOUT, b"\n");
 }
 
+// A kind past the last has the last name.
 fn name(kind: usize) {
-    match kind {
-        1..=7 => name_pattern(kind),
-        _ => name_other(kind),
-    }
-}
-
-fn name_pattern(kind: usize) {
-    match kind {
-        1 => write_all(STDOUT, b"random"),
-        2 => write_all(STDOUT, b"chain"),
-        3 => write_all(STDOUT, b"hub"),
-        4 => write_all(STDOUT, b"arrow"),
-        5 => write_all(STDOUT, b"dense"),
-        6 => write_all(STDOUT, b"grid"),
-        _ => write_all(STDOUT, b"no links"),
-    };
-}
-
-fn name_other(kind: usize) {
-    match kind {
-        8 => write_all(STDOUT, b"late flags"),
-        9 => write_all(STDOUT, b"few blocks"),
-        10 => write_all(STDOUT, b"at the limits"),
-        11 => write_all(STDOUT, b"one fault"),
-        12 => write_all(STDOUT, b"two faults"),
-        13 => write_all(STDOUT, b"lent buffers"),
-        _ => write_all(STDOUT, b"check of a system"),
-    };
+    let at = kind.clamp(1, NAMES.len()) - 1;
+    write_all(STDOUT, NAMES[at]);
 }

@@ -1,7 +1,8 @@
 // What a call answers, and whether the list says the same.
-use checks::System;
-use plan::Planned;
-use word_list::words::{size, whole};
+use checks::SystemError;
+use plan::{Counts, PlanError};
+use refusal::number_of;
+use word_list::entry::whole;
 
 #[derive(Clone, Copy)]
 pub struct Told {
@@ -28,60 +29,57 @@ fn refused(number: usize, first: usize, second: usize) -> Told {
     }
 }
 
-pub fn of_plan(p: Planned) -> Told {
+pub fn of_plan(p: Result<Counts, PlanError>) -> Told {
+    let number = number_of(&p) as usize;
     match p {
-        Planned::Accepted(c) => Told {
-            number: 0,
+        Ok(c) => Told {
+            number,
             first: 0,
             second: 0,
             stored: c.stored,
             numbers: c.numbers,
             products: c.products,
         },
-        Planned::Blocks => refused(1, 0, 0),
-        Planned::Dimension { place } => refused(2, place, 0),
-        Planned::Starts { place } => refused(3, place, 0),
-        Planned::Stored => refused(4, 0, 0),
-        Planned::Row { place } => refused(5, place, 0),
-        Planned::Order { place } => refused(6, place, 0),
-        Planned::Permutation { place } => refused(8, place, 0),
-        Planned::Late { place } => refused(9, place, 0),
-        Planned::Short { which, need } => refused(11, which, need),
+        Err(PlanError::Blocks | PlanError::Stored) => refused(number, 0, 0),
+        Err(
+            PlanError::Dimension { place }
+            | PlanError::Starts { place }
+            | PlanError::Row { place }
+            | PlanError::Order { place }
+            | PlanError::Permutation { place }
+            | PlanError::Late { place },
+        ) => refused(number, place, 0),
+        Err(PlanError::Short { which, need }) => refused(number, which, need),
     }
 }
 
-pub fn of_system(s: System) -> Told {
+pub fn of_system(s: Result<(), SystemError>) -> Told {
+    let number = number_of(&s) as usize;
     match s {
-        System::Accepted(_) => refused(0, 0, 0),
-        System::Blocks => refused(1, 0, 0),
-        System::Dimension { place } => refused(2, place, 0),
-        System::Starts { place } => refused(3, place, 0),
-        System::Stored => refused(4, 0, 0),
-        System::Row { place } => refused(5, place, 0),
-        System::Order { place } => refused(6, place, 0),
-        System::Values => refused(7, 0, 0),
-        System::Permutation { place } => refused(8, place, 0),
-        System::Late { place } => refused(9, place, 0),
-        System::Tolerance => refused(10, 0, 0),
+        Ok(_)
+        | Err(
+            SystemError::Blocks
+            | SystemError::Stored
+            | SystemError::Values
+            | SystemError::Tolerance,
+        ) => refused(number, 0, 0),
+        Err(
+            SystemError::Dimension { place }
+            | SystemError::Starts { place }
+            | SystemError::Row { place }
+            | SystemError::Order { place }
+            | SystemError::Permutation { place }
+            | SystemError::Late { place },
+        ) => refused(number, place, 0),
     }
 }
 
 // Whether the words of a case say so.
 pub fn matches(h: &[u32; 26], t: Told) -> bool {
-    if size(h[17]) != t.number {
-        return false;
-    }
-    if size(h[18]) != t.first {
-        return false;
-    }
-    if size(h[19]) != t.second {
-        return false;
-    }
-    if size(h[21]) != t.stored {
-        return false;
-    }
-    if size(h[22]) != t.numbers {
-        return false;
-    }
-    whole(h[23], h[24]) == t.products
+    h[17] as usize == t.number
+        && h[18] as usize == t.first
+        && h[19] as usize == t.second
+        && h[21] as usize == t.stored
+        && h[22] as usize == t.numbers
+        && whole(h[23], h[24]) == t.products
 }

@@ -7,8 +7,13 @@ use Rattle.refusal.proofs.Laws.{first-refuses, stays-refused, need-short, need-m
 use Rattle.tables.specs.Verdict.{tree_verdict}
 use Rattle.tables.specs.Sound.{TreeSound}
 use Rattle.reach.specs.Reach.{Parents, State, mark_of, reach_of}
-use Rattle.reach.specs.Walk.{told, block_check, needs, reach_verdict, walk_of, Walks}
-use Rattle.reach.specs.declared.Reached.{Reached}
+use Rattle.reach.specs.Walk.{told, told_error, block_check, needs, reach_verdict, walk_of, Walks}
+use mathlib.Core.Bool.{false≢true}
+use Rattle.std.specs.Prelude.{Result, Ok, Err}
+use Rattle.std.specs.Result.{IsErr, IsErrAnd}
+use Rattle.reach.specs.declared.cores.Mark.{Mark}
+use Rattle.reach.specs.declared.ReachError.{ReachError}
+use Rattle.reach.specs.declared.ReachError.TheVariants.{Blocks, Starts, Row, Parent, Order, Short, Past}
 
 -- the parents' rule, as the walk asks for it
 pub rule-of : (starts rows parents : List ℕ) → TreeSound starts rows parents → Parents parents
@@ -40,20 +45,12 @@ module _ (n j stamps found : ℕ) where
 
 -- ---- the answer in each case
 
-module _ (starts rows parents : List ℕ) (j mark : ℕ) (stamps found : List ℕ) (r : Reached) where
+module _ (starts rows parents : List ℕ) (j mark : ℕ) (stamps found : List ℕ) (r : Result Mark ReachError) where
   -- refused: nothing is changed
   pub refused : (v : Told) → told r ≡ v → refuses v ≡ true → Walks v starts rows parents j mark stamps found r stamps found
   refused v e stops =
       let same : (old new : List ℕ) → old ≡ after v old new = λ old new. sym (ap (λ (b : Bool). cond b old new) stops) in
       record { outcome = e ∙ first-refuses v _ stops; stamped = same stamps _; listed = same found _ }
-
-  -- the tables are refused, and so is the call, in the same words
-  pub tables_refused : refuses (told r) ≡ true → told r ≡ tree_verdict starts rows parents → Walks (reach_verdict starts rows parents j (length stamps) (length found)) starts rows parents j mark stamps found r stamps found
-  unfolding reach_verdict
-  tables_refused stops e =
-      let list = needs (length parents) j (length stamps) (length found) in
-      let stays : verdict_after (tree_verdict starts rows parents) list ≡ told r = ap (λ (t : Told). verdict_after t list) (sym e) ∙ stays-refused (told r) list stops in
-      refused _ (sym stays) (ap refuses stays ∙ stops)
 
   -- accepted: the stamps and the list of the walk, each before what stood after it
   pub walked : (v : Told) (part stamps' found' : List ℕ) (next top : ℕ) → told r ≡ accepted (next ∷ top ∷ []) [] → v ≡ done → part ≡ slice (get_or starts j 0) (get_or starts (j + 1) 0) rows →
@@ -80,6 +77,28 @@ module _ (starts rows parents : List ℕ) (j mark : ℕ) (stamps found : List �
             ∙ ap (λ (s : State). take (n - length (walk_of starts rows parents j mark stamps).found) found ++ (s.found ++ drop n found)) is-walk
             ∙ new found _;
       }
+
+-- each error is a refusal
+error-refuses : (e : ReachError) → refuses (told_error e) ≡ true
+error-refuses Blocks = refl
+error-refuses (Starts place) = refl
+error-refuses (Row place) = refl
+error-refuses (Parent place) = refl
+error-refuses (Order place) = refl
+error-refuses (Short which need) = refl
+error-refuses (Past place) = refl
+
+-- the tables are refused, and so is the call, in the same words
+pub tables_refused : (starts rows parents : List ℕ) (j mark : ℕ) (stamps found : List ℕ) (r : Result Mark ReachError) (v : Told) → IsErr r × IsErrAnd r (λ e. told_error e ≡ v) → v ≡ tree_verdict starts rows parents →
+    Walks (reach_verdict starts rows parents j (length stamps) (length found)) starts rows parents j mark stamps found r stamps found
+unfolding reach_verdict
+tables_refused starts rows parents j mark stamps found (Ok m) v p e = absurd (false≢true p.0)
+tables_refused starts rows parents j mark stamps found (Err r) v p e =
+    let list = needs (length parents) j (length stamps) (length found) in
+    let stops : refuses (told_error r) ≡ true = error-refuses r in
+    let same : told_error r ≡ tree_verdict starts rows parents = p.1 ∙ e in
+    let stays : verdict_after (tree_verdict starts rows parents) list ≡ told_error r = ap (λ (t : Told). verdict_after t list) (sym same) ∙ stays-refused (told_error r) list stops in
+    refused starts rows parents j mark stamps found (Err r) _ (sym stays) (ap refuses stays ∙ stops)
 
 -- the tables pass, and the needs decide
 pub tables-passed : (starts rows parents : List ℕ) (j stamps found : ℕ) → done ≡ tree_verdict starts rows parents → verdict (needs (length parents) j stamps found) ≡ reach_verdict starts rows parents j stamps found

@@ -17,25 +17,14 @@ pub struct Mark {
 pub fn holds(stamp: &[u32], mark: u32) -> bool
     ensures { result ≡ any_is mark stamp.now }
 {
-    let mut i = 0;
-    while i < stamp.len() {
-        if stamp[i] == mark {
-            return true;
-        }
-        i += 1;
-    }
-    false
+    stamp.contains(&mark)
 }
 
 // Every stamp becomes 0.
 pub fn clear(stamp: &mut [u32])
     ensures { stamp.new ≡ replicate (length stamp.old) 0 }
 {
-    let mut i = 0;
-    while i < stamp.len() {
-        stamp[i] = 0;
-        i += 1;
-    }
+    stamp.fill(0);
 }
 
 // The next mark: the old one plus one, wrapping. Where that is 0 or a stamp holds it, all stamps become 0 and the mark 1.
@@ -72,9 +61,8 @@ pub fn scan(
     ensures stamp_after { stamp.new ≡ (reached parent.now mark j rows.now stamp.old).stamps }
 {
     let mut top = out.len();
-    let mut q = 0;
-    while q < rows.len() {
-        let mut i = rows[q];
+    for &row in rows {
+        let mut i = row;
         if i < j {
             'climb: loop {
                 let at = i as usize;
@@ -91,7 +79,6 @@ pub fn scan(
                 i = up;
             }
         }
-        q += 1;
     }
     top
 }

@@ -3,19 +3,19 @@
 
 pub mod cores;
 
-ghost use Rattle.std.specs.Prelude.{length};
+ghost use Rattle.std.specs.Prelude.{◌≡◌, length};
 ghost use Rattle.tables.specs.Sound.{TreeSound};
 ghost use Rattle.refusal.specs.Refusal.{verdict};
-ghost use Rattle.reach.specs.Walk.{needs, reach_verdict, Walks};
+ghost use Rattle.upper_checks.specs.Outcome.{told_tree_error};
+ghost use Rattle.reach.specs.Walk.{told_error, needs, reach_verdict, Walks};
 
 use crate::cores::{Mark, reach_core};
-use upper_checks::{Tree, check_tree};
+use refusal::Refusal;
+use upper_checks::{TreeError, check_tree};
 
-// The outcome of `reach`.
-#[derive(Clone, Copy)]
-pub enum Reached {
-    // The mark that the walk used, and where in the first n places its list begins.
-    Accepted(Mark),
+// The refusals of `reach`.
+#[derive(Clone, Copy, Debug, PartialEq, Eq)]
+pub enum ReachError {
     // 1
     Blocks,
     // 3: the entry of the column starts.
@@ -32,8 +32,39 @@ pub enum Reached {
     Past { place: usize },
 }
 
+impl Refusal for ReachError {
+    ghost told = { told_error };
+
+    fn number(&self) -> u32 {
+        match self {
+            ReachError::Blocks => 1,
+            ReachError::Starts { place: _ } => 3,
+            ReachError::Row { place: _ } => 5,
+            ReachError::Parent { place: _ } => 5,
+            ReachError::Order { place: _ } => 6,
+            ReachError::Short { which: _, need: _ } => 11,
+            ReachError::Past { place: _ } => 12,
+        }
+    }
+}
+
+// Tables that are refused refuse the walk in the same words.
+impl From<TreeError> for ReachError {
+    ghost from_gives = { λ e r. told_error r ≡ told_tree_error e };
+
+    fn from(e: TreeError) -> ReachError {
+        match e {
+            TreeError::Blocks => ReachError::Blocks,
+            TreeError::Starts { place } => ReachError::Starts { place },
+            TreeError::Row { place } => ReachError::Row { place },
+            TreeError::Parent { place } => ReachError::Parent { place },
+            TreeError::Order { place } => ReachError::Order { place },
+        }
+    }
+}
+
 // The blocks that column j of an upper pattern reaches by the parents, last found first: they end the first n places of `found`.
-// `mark` and `stamps` are what the last walk left; 0 and zeros begin. After a refusal nothing is changed.
+// Accepted, the mark that the walk used and where in the first n places its list begins. `mark` and `stamps` are what the last walk left; 0 and zeros begin. After a refusal nothing is changed.
 pub fn reach(
     starts: &[u32],
     rows: &[u32],
@@ -42,18 +73,11 @@ pub fn reach(
     mark: u32,
     stamps: &mut [u32],
     found: &mut [u32],
-) -> Reached
+) -> Result<Mark, ReachError>
     ensures { Walks (reach_verdict starts.now rows.now parents.now j (length stamps.old) (length found.old)) starts.now rows.now parents.now j mark stamps.old found.old result stamps.new found.new }
 {
-    let t = check_tree(starts, rows, parents);
-    match t {
-        Tree::Accepted(_) => walked_core(starts, rows, parents, j, mark, stamps, found),
-        Tree::Blocks => Reached::Blocks,
-        Tree::Starts { place } => Reached::Starts { place },
-        Tree::Row { place } => Reached::Row { place },
-        Tree::Parent { place } => Reached::Parent { place },
-        Tree::Order { place } => Reached::Order { place },
-    }
+    check_tree(starts, rows, parents)?;
+    walked_core(starts, rows, parents, j, mark, stamps, found)
 }
 
 // The walk over tables that have passed: the buffers' needs, the block, then the work.
@@ -65,29 +89,28 @@ fn walked_core(
     mark: u32,
     stamps: &mut [u32],
     found: &mut [u32],
-) -> Reached
+) -> Result<Mark, ReachError>
     requires { TreeSound starts.now rows.now parents.now }
     ensures { Walks (verdict (needs (length parents.now) j (length stamps.old) (length found.old))) starts.now rows.now parents.now j mark stamps.old found.old result stamps.new found.new }
 {
     let n = parents.len();
     if stamps.len() < n {
-        return Reached::Short { which: 0, need: n };
+        return Err(ReachError::Short { which: 0, need: n });
     }
     if found.len() < n {
-        return Reached::Short { which: 1, need: n };
+        return Err(ReachError::Short { which: 1, need: n });
     }
     if n <= j {
-        return Reached::Past { place: 0 };
+        return Err(ReachError::Past { place: 0 });
     }
     let from = starts[j] as usize;
     let to = starts[j + 1] as usize;
-    let m = reach_core(
+    Ok(reach_core(
         parents,
         &rows[from..to],
         j as u32,
         mark,
         &mut stamps[..n],
         &mut found[..n],
-    );
-    Reached::Accepted(m)
+    ))
 }

@@ -9,8 +9,9 @@ ghost use Rattle.elimination_tree.specs.New as tree;
 ghost use Rattle.reach.specs.Walk as walk;
 ghost use Rattle.reach_abi.specs.Number.{ExportsTree, ExportsReach};
 
-use elimination_tree::Grown;
-use reach::Reached;
+use elimination_tree::TreeError;
+use reach::ReachError;
+use reach::cores::Mark;
 use report::carry;
 
 // The tree: `elimination_tree::new`. Accepted, `told` has zeros; refused, the place, or the buffer and its need, and zeros after.
@@ -49,31 +50,31 @@ pub extern "C" fn beyqaloosh_reach(
 }
 
 // The number of a tree's outcome, and what it carries.
-fn tell_grown(g: Grown, told: &mut [u64; 3]) -> u32
+fn tell_grown(g: Result<(), TreeError>, told: &mut [u64; 3]) -> u32
     ensures { (result ≡ refusal.number (tree.told g)) × (told.new ≡ carried (tree.told g)) }
 {
     match g {
-        Grown::Accepted(_) => carry(told, 0, 0, 0, 0),
-        Grown::Blocks => carry(told, 1, 0, 0, 0),
-        Grown::Starts { place } => carry(told, 3, place as u64, 0, 0),
-        Grown::Row { place } => carry(told, 5, place as u64, 0, 0),
-        Grown::Order { place } => carry(told, 6, place as u64, 0, 0),
-        Grown::Short { which, need } => carry(told, 11, which as u64, need as u64, 0),
+        Ok(_) => carry(told, 0, 0, 0, 0),
+        Err(TreeError::Blocks) => carry(told, 1, 0, 0, 0),
+        Err(TreeError::Starts { place }) => carry(told, 3, place as u64, 0, 0),
+        Err(TreeError::Row { place }) => carry(told, 5, place as u64, 0, 0),
+        Err(TreeError::Order { place }) => carry(told, 6, place as u64, 0, 0),
+        Err(TreeError::Short { which, need }) => carry(told, 11, which as u64, need as u64, 0),
     }
 }
 
 // The number of a walk's outcome, and what it carries.
-fn tell_reached(w: Reached, told: &mut [u64; 3]) -> u32
+fn tell_reached(w: Result<Mark, ReachError>, told: &mut [u64; 3]) -> u32
     ensures { (result ≡ refusal.number (walk.told w)) × (told.new ≡ carried (walk.told w)) }
 {
     match w {
-        Reached::Accepted(m) => carry(told, 0, m.mark as u64, m.top as u64, 0),
-        Reached::Blocks => carry(told, 1, 0, 0, 0),
-        Reached::Starts { place } => carry(told, 3, place as u64, 0, 0),
-        Reached::Row { place } => carry(told, 5, place as u64, 0, 0),
-        Reached::Parent { place } => carry(told, 5, place as u64, 1, 0),
-        Reached::Order { place } => carry(told, 6, place as u64, 0, 0),
-        Reached::Short { which, need } => carry(told, 11, which as u64, need as u64, 0),
-        Reached::Past { place } => carry(told, 12, place as u64, 0, 0),
+        Ok(m) => carry(told, 0, m.mark as u64, m.top as u64, 0),
+        Err(ReachError::Blocks) => carry(told, 1, 0, 0, 0),
+        Err(ReachError::Starts { place }) => carry(told, 3, place as u64, 0, 0),
+        Err(ReachError::Row { place }) => carry(told, 5, place as u64, 0, 0),
+        Err(ReachError::Parent { place }) => carry(told, 5, place as u64, 1, 0),
+        Err(ReachError::Order { place }) => carry(told, 6, place as u64, 0, 0),
+        Err(ReachError::Short { which, need }) => carry(told, 11, which as u64, need as u64, 0),
+        Err(ReachError::Past { place }) => carry(told, 12, place as u64, 0, 0),
     }
 }

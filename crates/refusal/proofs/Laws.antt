@@ -7,11 +7,12 @@ use native.Mathlib.Omega.{arith}
 use lib.Dec.{leb, eqb}
 use lib.Ieee.{Float}
 use borrow.Author.Tests.{leb-true, eqb-true, eqb-false, eq-eqb, ne_eqb, le-leb, lt-leb, lt-ltb, le-ltb}
-use Rattle.refusal.specs.Refusal.{Told, tells, done, bad_dimension, short_buffer, shapes_disagree, refuses, first_of, verdict_after, verdict, after}
+use Rattle.refusal.specs.Refusal.{Told, tells, done, bad_dimension, short_buffer, shapes_disagree, refuses, first_of, verdict_after, verdict}
 use Rattle.refusal.specs.Check.{size_check, need_check, area_check}
-use Rattle.refusal.specs.Shaped.{told, Answers}
-use Rattle.refusal.specs.declared.Shaped.{Shaped}
-use Rattle.refusal.specs.declared.Shaped.TheVariants.{Accepted, Dimension, Mismatch}
+use Rattle.refusal.specs.Shaped.{told, told_error, Answers}
+use Rattle.refusal.specs.declared.ShapeError.{ShapeError}
+use Rattle.refusal.specs.declared.ShapeError.TheVariants.{Dimension, Mismatch}
+use Rattle.std.specs.Prelude.{Result, Ok, Err}
 use mathlib.Core.List.{List, [], ◌∷◌}
 
 -- ---- verdicts
@@ -30,12 +31,6 @@ first_passes (tells (suc n) is xs) next e = cc
 pub both-pass : (v next : Told) → refuses (first_of v next) ≡ false → (refuses v ≡ false) × (refuses next ≡ false)
 both-pass (tells zero is xs) next e = (refl, e)
 both-pass (tells (suc n) is xs) next e = (e, cc)
-
--- an outcome of shapes that passes says no more
-pub passed : (s : Shaped) → refuses (told s) ≡ false → told s ≡ done
-passed (Accepted w) e = refl
-passed (Dimension place) e = cc
-passed (Mismatch place) e = cc
 
 -- ---- a list of checks, from its front
 
@@ -113,22 +108,35 @@ all-pass-after v (check ∷ checks) e =
 pub all_pass : (checks : List Told) → refuses (verdict checks) ≡ false → AllPass checks
 all_pass checks e = (all-pass-after done checks e).1
 
--- ---- a call whose checks say v, and whose test of that was `b`
+-- ---- the promise of a call on shapes whose checks answered r, which is what v says
 
-module _ (v t : Told) (b : Bool) (says : t ≡ v) (tests : b ≡ refuses t) where
-  pub goes_on : b ≡ false → refuses v ≡ false
-  goes_on e = rw says at (sym tests ∙ e)
+module _ (v : Told) (old new : List Float) (r : Result Unit ShapeError) (says : told r ≡ v) where
+  -- they passed
+  pub passes : (w : Unit) → r ≡ Ok w → refuses v ≡ false
+  passes w e = ap refuses (sym says ∙ ap told e)
 
-  pub stops : b ≡ true → refuses v ≡ true
-  stops e = rw says at (sym tests ∙ e)
+  refusing : (e : ShapeError) → refuses (told_error e) ≡ true → r ≡ Err e → refuses v ≡ true
+  refusing e t is = ap refuses (sym says ∙ ap told is) ∙ t
 
--- the promise of a call on shapes
-module _ (v : Told) (s : Shaped) (b : Bool) (says : told s ≡ v) (tests : b ≡ refuses (told s)) (old new : List Float) where
-  pub answer-refused : b ≡ true → Answers v old new s old
-  answer-refused e = record { outcome = says; buffer = rw (stops v (told s) b says tests e) }
+  -- they refused: the slice is as it was
+  pub answer-refused : (e : ShapeError) → r ≡ Err e → Answers v old new (Err e) old
+  answer-refused (Dimension place) is = record { outcome = rw is at says; buffer = rw (refusing _ refl is) refl }
+  answer-refused (Mismatch place) is = record { outcome = rw is at says; buffer = rw (refusing _ refl is) refl }
 
-  pub answer-done : (now : List Float) → b ≡ false → now ≡ new → Answers v old new s now
-  answer-done now e n = record { outcome = says; buffer = rw (goes_on v (told s) b says tests e) n }
+  -- they passed, and the slice is the new one
+  pub answer-done : (w : Unit) (now : List Float) → r ≡ Ok w → now ≡ new → Answers v old new (Ok tt) now
+  answer-done w now e n = record { outcome = rw e at says; buffer = rw (passes w e) n }
+
+-- ---- one check after the other, each by `?`: what `grind` is handed
+
+pub after_error : (e : ShapeError) (next : Told) → first_of (told_error e) next ≡ told_error e
+after_error (Dimension place) next = refl
+after_error (Mismatch place) next = refl
+
+pub after_done : (next : Told) → first_of done next ≡ next
+after_done next = refl
+
+pub ruleset in_order = (after_error, after_done)
 
 -- ---- quotients
 

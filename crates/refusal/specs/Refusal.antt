@@ -1,5 +1,5 @@
 -- The refusals of document 01, 1 to 16, and what each carries. Assumes nothing.
-use Rattle.std.specs.Prelude.{ℕ, zero, suc, Bool, true, false, cond, List, [], ◌∷◌, Float}
+use Rattle.std.specs.Prelude.{ℕ, zero, suc, Bool, true, false, cond, List, [], ◌∷◌, Float, Result, Ok, Err}
 
 -- an answer as document 01 words it: the refusal's number, or 0 where the call is accepted, then the indices and the floats that it carries
 pub data Told : Type 0 where
@@ -94,6 +94,18 @@ bad_sheet = tells 15 [] []
 -- 16: beyond the program's room
 abbrev pub no_room : Told
 no_room = tells 16 [] []
+
+-- ---- the answer of a call: what is accepted, and its refusals
+
+-- an answer, from how what is accepted and a refusal are told
+abbrev pub told_by : {A E : Type 0} → (A → Told) → (E → Told) → Result A E → Told
+told_by accepts refuses (Ok a) = accepts a
+told_by accepts refuses (Err e) = refuses e
+
+-- its number, 0 where the call is accepted
+abbrev pub number_by : {A E : Type 0} → (E → Told) → Result A E → ℕ
+number_by refuses (Ok a) = 0
+number_by refuses (Err e) = number (refuses e)
 
 -- ---- a verdict and what follows from it
 

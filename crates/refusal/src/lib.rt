@@ -1,59 +1,68 @@
-// The checks of sizes and of the lengths of slices that calls on one block make, 2 and 12 of document 01, and the outcome of
-// a call that refuses nothing else. `specs/Refusal.antt` has all sixteen refusals.
+// What a refusal of any call says; the checks of sizes and of the lengths of slices that calls on one block make, 2 and 12 of
+// document 01, and the refusals of a call that has no others. `specs/Refusal.antt` has all sixteen.
 #![tactic(auto)]
 
-ghost use Rattle.std.specs.Prelude.{◌≡◌, Bool, eqb, ◌*◌};
-ghost use Rattle.refusal.specs.Refusal.{done, first_of, refuses};
+ghost use Rattle.std.specs.Prelude.{◌≡◌, ℕ, eqb, ◌*◌, ◌≤◌, OnOk};
+ghost use Rattle.refusal.specs.Refusal.{Told, number, number_by};
 ghost use Rattle.refusal.specs.Check.{size_check, area_check};
-ghost use Rattle.refusal.specs.Shaped.{told};
+ghost use Rattle.refusal.specs.Shaped.{told, told_error};
 
-// What an accepted call on shapes hands back, beside the slice that it wrote: nothing.
+// The refusals of a call: each has document 01's number.
+pub trait Refusal {
+    // The refusal in document 01's words.
+    ghost told: { Self → Told };
+
+    fn number(&self) -> u32
+        ensures { result ≡ number (told self.now) };
+}
+
+// The number of an answer, 0 where the call is accepted.
+pub fn number_of<T, E: Refusal>(answer: &Result<T, E>) -> u32
+    ensures { result ≡ number_by E.told answer.now }
+{
+    match answer {
+        Ok(_) => 0,
+        Err(refusal) => refusal.number(),
+    }
+}
+
+// What an accepted call hands back beside the slices that it wrote: nothing.
 #[derive(Clone, Copy)]
 pub struct Worked {}
 
-// The outcome of a call that refuses 2 and 12 alone. Places count from 0 in the order of the call: under 2 among its sizes,
+// The refusals of a call that refuses 2 and 12 alone. Places count from 0 in the order of the call: under 2 among its sizes,
 // under 12 among its slices.
-#[derive(Clone, Copy)]
-pub enum Shaped {
-    Accepted(Worked),
+#[derive(Clone, Copy, Debug, PartialEq, Eq)]
+pub enum ShapeError {
     // 2
     Dimension { place: usize },
     // 12
     Mismatch { place: usize },
 }
 
-// Before any check.
-pub fn unchecked() -> Shaped
-    ensures { told result ≡ done }
-{
-    Shaped::Accepted(Worked {})
-}
+impl Refusal for ShapeError {
+    ghost told = { told_error };
 
-// Whether the call is refused.
-pub fn refused(s: Shaped) -> bool
-    ensures { result ≡ refuses (told s) }
-{
-    match s {
-        Shaped::Accepted(_) => false,
-        Shaped::Dimension { place: _ } => true,
-        Shaped::Mismatch { place: _ } => true,
+    fn number(&self) -> u32 {
+        match self {
+            ShapeError::Dimension { place: _ } => 2,
+            ShapeError::Mismatch { place: _ } => 12,
+        }
     }
 }
 
-// `before`, or where it passes what the size `n` says: it passes from `least` to 16.
-pub fn size(before: Shaped, least: usize, place: usize, n: usize) -> Shaped
-    ensures { told result ≡ first_of (told before) (size_check least place n) }
+// The size `n` passes from `least` to 16.
+pub fn size(least: usize, place: usize, n: usize) -> Result<(), ShapeError>
+    ensures check { told result ≡ size_check least place n }
+    ensures fits { OnOk result ((least ≤ n) × (n ≤ 16)) }
 {
-    if refused(before) {
-        return before;
-    }
     if n < least {
-        return Shaped::Dimension { place };
+        return Err(ShapeError::Dimension { place });
     }
     if n > 16 {
-        return Shaped::Dimension { place };
+        return Err(ShapeError::Dimension { place });
     }
-    before
+    Ok(())
 }
 
 // Whether a slice of `count` numbers holds a block of that height and width exactly. The product is formed only where it
@@ -75,15 +84,13 @@ pub fn is_area(count: usize, height: usize, width: usize) -> bool
     count / height == width
 }
 
-// `before`, or where it passes what the slice of `count` numbers says: it passes where it holds the block exactly.
-pub fn area(before: Shaped, place: usize, height: usize, width: usize, count: usize) -> Shaped
-    ensures { told result ≡ first_of (told before) (area_check place height width count) }
+// A slice of `count` numbers passes where it holds the block exactly.
+pub fn area(place: usize, height: usize, width: usize, count: usize) -> Result<(), ShapeError>
+    ensures check { told result ≡ area_check place height width count }
+    ensures fits { OnOk result (count ≡ height * width) }
 {
-    if refused(before) {
-        return before;
-    }
     if is_area(count, height, width) {
-        return before;
+        return Ok(());
     }
-    Shaped::Mismatch { place }
+    Err(ShapeError::Mismatch { place })
 }

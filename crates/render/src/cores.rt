@@ -86,10 +86,8 @@ pub fn lines_length(x: &[f64], marks: &[u8]) -> usize
     ensures { (result ≡ length (lines x.now marks.now (length x.now))) × (result ≤ 2949120) }
 {
     let mut sum: usize = 0;
-    let mut k: usize = 0;
-    while k < x.len() {
+    for k in 0..x.len() {
         sum += line_length(k as u64, marks[k]);
-        k += 1;
     }
     sum
 }
@@ -107,10 +105,8 @@ pub fn put_lines(out: &mut [u8], at: usize, x: &[f64], marks: &[u8]) -> usize
     ensures { Puts at (lines x.now marks.now (length x.now)) out.old result out.new }
 {
     let mut next = at;
-    let mut k: usize = 0;
-    while k < x.len() {
+    for k in 0..x.len() {
         next = scalar_line(out, next, k as u64, x[k], marks[k]);
-        k += 1;
     }
     next
 }

@@ -6,7 +6,6 @@ use mathlib.Core.Bool.{beq}
 use Prim.Native.Nat.{zero-le}
 use native.Mathlib.Nat.{zero-mul, suc-mul, pow-suc}
 use native.Mathlib.Omega.{arith}
-use lib.Ieee as Ieee
 use lib.Ieee.{Float, nan, inf, fin, binary64, up, down, fits, is_nan, below, level, lt, eq, le, ne, neg, of_bits}
 use lib.Ieee.Fits.{up_pos}
 use borrow.Author.Tests.{ltb-true, ltb-false, lt-ltb, le-ltb, eqb-true, eq-eqb, ne_eqb}

@@ -1,11 +1,9 @@
 -- The laws that the proofs of the kernels share, and `kernels`, the set that `search` is handed. Assumes nothing.
-use Rattle.std.specs.Prelude.{◌≡◌, ℕ, zero, suc, ◌+◌, ◌*◌, ◌<◌, ◌≤◌, List, [], ◌∷◌, ◌++◌, length, drop, set, replicate}
+use Rattle.std.specs.Prelude.{◌≡◌, ℕ, zero, suc, ◌+◌, ◌*◌, ◌<◌, ◌≤◌}
 use mathlib.Core.Path.{refl, sym, ap, subst, ◌∙◌}
 use mathlib.Core.Logic.{⊎_elim}
-use mathlib.Core.List.{append-nil}
-use lib.Seq.{drop-length}
 use Prim.Native.Nat.{zero-le}
-use native.Mathlib.Nat.{le_antisymm, le_of_suc-le-suc, not-suc-le-zero, eq-or-lt_of_le, mul-le-mul, mul-le-mul_right, mul_comm, add-mul}
+use native.Mathlib.Nat.{le_antisymm, le_of_suc-le-suc, eq-or-lt_of_le, mul-le-mul, mul-le-mul_right, mul_comm, add-mul}
 use native.Mathlib.Numerals.{add-one}
 use native.Mathlib.Omega.{arith}
 use borrow.Author.Rules.{rules}
@@ -51,19 +49,6 @@ module _ {A : Type 0} (f g : ℕ → A → A) where
 
 -- what `search` is handed at a need of a kernel
 pub ruleset kernels = (rules, steps-none, steps-more, steps_next, steps_all)
-
--- ---- a list filled from the front
-module _ {A : Type 0} (v : A) where
-  fill_suc : (n : ℕ) (d : List A) → n < length d → set (replicate n v ++ drop n d) n v ≡ replicate (suc n) v ++ drop (suc n) d
-  fill_suc n [] l = absurd (not-suc-le-zero l)
-  fill_suc zero (x ∷ d) l = refl
-  fill_suc (suc n) (x ∷ d) l = ap (λ (t : List A). v ∷ t) (fill_suc n d (le_of_suc-le-suc l))
-
-  pub fill_more : (n : ℕ) (d s : List A) → s ≡ replicate n v ++ drop n d → n < length d → set s n v ≡ replicate (n + 1) v ++ drop (n + 1) d
-  fill_more n d s e l = rw (e, add-one) (fill_suc n d l)
-
-  pub fill-all : (n : ℕ) (d s : List A) → s ≡ replicate n v ++ drop n d → n ≤ length d → length d ≤ n → s ≡ replicate (length d) v
-  fill-all n d s e p q = e ∙ rw (le_antisymm p q, drop-length, append-nil)
 
 -- ---- sizes
 

@@ -23,7 +23,5 @@ pub fn copy(from: &[f64], to: &mut [f64])
     requires { length to.old ≡ length from.now }
     ensures { to.new ≡ from.now }
 {
-    for t in 0..from.len() {
-        to[t] = from[t];
-    }
+    to.copy_from_slice(from);
 }

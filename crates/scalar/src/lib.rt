@@ -82,17 +82,12 @@ pub fn not_a_number() -> f64
 pub fn blank(x: &mut [f64])
     ensures { x.new ≡ nans (length x.old) }
 {
-    let blank = not_a_number();
-    for i in 0..x.len() {
-        x[i] = blank;
-    }
+    x.fill(not_a_number());
 }
 
 // Every number becomes 0.0.
 pub fn clear(x: &mut [f64])
     ensures { x.new ≡ zeros (length x.old) }
 {
-    for i in 0..x.len() {
-        x[i] = 0.0;
-    }
+    x.fill(0.0);
 }

@@ -7,7 +7,7 @@ use lib.Ieee.{Float, nan}
 use lib.ListN.{length-append, length-drop, length-map, get_or-append, get_or-map}
 use lib.Seq.{get_or-append-add, length-take-le}
 use Rattle.graph.specs.Sets.{from, gather}
-use Rattle.buckets.proofs.Lists.{get_d_any}
+use Rattle.buckets.proofs.Lists.{get_or_any}
 use Rattle.order.proofs.Laws.{length_from, get_or-from}
 use Rattle.scalar.specs.Block as block
 use Rattle.scalar.proofs.Laws.{column}
@@ -59,7 +59,7 @@ module _ (dims starts rows : List ℕ) where
   unfolding offsets
   offsets-at p h =
       let l = length-offsets in
-      get_d_any (offsets dims starts rows) p 0 (offset_at dims starts rows 0) (omega arith) ∙ get_or-map {A = ℕ} {B = ℕ} (offset_at dims starts rows) (from 0 (length rows + 1)) p 0
+      get_or_any (offsets dims starts rows) p 0 (offset_at dims starts rows 0) (omega arith) ∙ get_or-map {A = ℕ} {B = ℕ} (offset_at dims starts rows) (from 0 (length rows + 1)) p 0
       ∙ ap (offset_at dims starts rows) (get_or-from 0 (length rows + 1) p (omega arith) ∙ omega arith)
 
   -- a body is what lies between two of them
@@ -112,7 +112,7 @@ module _ (h w : ℕ) (body : List Float) where
   row_at : (r c : ℕ) → c < w → get_or (row r) c nan ≡ block.at body h r c
   row_at r c k =
       let l = length-row r in
-      get_d_any (row r) c nan (block.at body h r 0) (omega arith) ∙ get_or-map {A = ℕ} {B = Float} (λ c. block.at body h r c) (from 0 w) c 0
+      get_or_any (row r) c nan (block.at body h r 0) (omega arith) ∙ get_or-map {A = ℕ} {B = Float} (λ c. block.at body h r c) (from 0 w) c 0
       ∙ ap (λ (m : ℕ). block.at body h r m) (get_or-from 0 w c k ∙ omega arith)
 
   rows-length : (a n : ℕ) → length (gather {A = Float} row (from a n)) ≡ n * w

@@ -17,7 +17,7 @@ use Rattle.graph.specs.Order.{Permutes}
 use Rattle.graph.proofs.SetLaws.{elem-head, elem-tail, elem-cases, from-elim, from-intro, from-inc, inc-uniq}
 use Rattle.graph.proofs.OrderLaws.{elem-append, elem-left, elem-right, append-uniq}
 use Rattle.buckets.specs.Buckets.{before}
-use Rattle.buckets.proofs.Lists.{get_d_any}
+use Rattle.buckets.proofs.Lists.{get_or_any}
 use Rattle.buckets.proofs.Turns.{before-next, before_small}
 use Rattle.order.specs.Order.{sizes_of}
 use Rattle.order.proofs.Laws.{length_from, get_or-from, uniq-within, has_all, below_at, length-sizes}
@@ -68,7 +68,7 @@ pub starts-at : (sizes : List ℕ) (k : ℕ) → k ≤ length sizes → get_or (
 unfolding scalar_starts
 starts-at sizes k h =
     let l = length-map {A = ℕ} {B = ℕ} (from 0 (length sizes + 1)) (before sizes) ∙ length_from 0 (length sizes + 1) in
-    get_d_any (map {A = ℕ} {B = ℕ} (before sizes) (from 0 (length sizes + 1))) k 0 (before sizes 0) (omega arith)
+    get_or_any (map {A = ℕ} {B = ℕ} (before sizes) (from 0 (length sizes + 1))) k 0 (before sizes 0) (omega arith)
     ∙ get_or-map {A = ℕ} {B = ℕ} (before sizes) (from 0 (length sizes + 1)) k 0
     ∙ ap (before sizes) (get_or-from 0 (length sizes + 1) k (omega arith) ∙ omega arith)
 
@@ -182,7 +182,7 @@ unfolding sizes_of
 sizes-at dims order k h =
     let f : ℕ → ℕ = λ old. get_or dims old 0 in
     let l = length-sizes dims order in
-    get_d_any (map {A = ℕ} {B = ℕ} f order) k 0 (f 0) (omega arith) ∙ get_or-map {A = ℕ} {B = ℕ} f order k 0
+    get_or_any (map {A = ℕ} {B = ℕ} f order) k 0 (f 0) (omega arith) ∙ get_or-map {A = ℕ} {B = ℕ} f order k 0
 
 -- the new sizes are small too
 pub sizes-small : (dims order : List ℕ) → Sizes dims → (k : ℕ) → k < length (sizes_of dims order) → get_or (sizes_of dims order) k 0 ≤ 16

@@ -26,18 +26,12 @@ pub fn make_scalar_perm(dims: &[u32], order: &[u32], old_starts: &[u32], out: &m
     ensures { out.new ≡ scalar_perm dims.now order.now }
 {
     let mut place = 0;
-    let mut k = 0;
-    while k < order.len() {
-        let old = order[k] as usize;
-        let start = old_starts[old];
-        let size = dims[old];
-        let mut s = 0;
-        while s < size {
+    for &old in order {
+        let start = old_starts[old as usize];
+        for s in 0..dims[old as usize] {
             out[place] = start + s;
             place += 1;
-            s += 1;
         }
-        k += 1;
     }
 }
 
@@ -47,19 +41,15 @@ pub fn make_offsets(dims: &[u32], starts: &[u32], rows: &[u32], out: &mut [u32])
     ensures { out.new ≡ offsets dims.now starts.now rows.now }
 {
     let mut sum = 0;
-    let mut p = 0;
-    let mut j = 0;
-    while j < dims.len() {
+    for j in 0..dims.len() {
         let d = dims[j] as usize;
         let end = starts[j + 1] as usize;
-        while p < end {
+        for p in starts[j] as usize..end {
             out[p] = sum as u32;
             sum += block_area(dims, rows, d, p);
-            p += 1;
         }
-        j += 1;
     }
-    out[p] = sum as u32;
+    out[rows.len()] = sum as u32;
 }
 
 // The transpose of a body of height h and width w.

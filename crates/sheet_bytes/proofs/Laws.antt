@@ -11,7 +11,7 @@ use lib.Ieee.{Float, nan}
 use lib.ListN.{length-map, get_or-map}
 use lib.Seq.{get_or-take, get_or-set_same, get_or-set_other, ext_get_or}
 use Rattle.graph.specs.Sets.{from}
-use Rattle.buckets.proofs.Lists.{get_d_any}
+use Rattle.buckets.proofs.Lists.{get_or_any}
 use Rattle.order.proofs.Laws.{length_from, get_or-from}
 use Rattle.sheet_bytes.specs.Layout.{u32_at, f64_at, u32s, f64s}
 
@@ -25,7 +25,7 @@ module _ {A : Type 0} (f : ℕ → A) where
   mapped_at count k d h =
       let l = mapped-length count in
       let e : get_or (from 0 count) k 0 ≡ k = get_or-from 0 count k h ∙ omega arith in
-      get_d_any (map {A = ℕ} {B = A} f (from 0 count)) k d (f 0) (omega arith) ∙ get_or-map {A = ℕ} {B = A} f (from 0 count) k 0 ∙ ap f e
+      get_or_any (map {A = ℕ} {B = A} f (from 0 count)) k d (f 0) (omega arith) ∙ get_or-map {A = ℕ} {B = A} f (from 0 count) k 0 ∙ ap f e
 
   mapped-all : (count : ℕ) (d : A) (xs : List A) → length xs ≡ count → ((k : ℕ) → k < count → get_or xs k d ≡ f k) → xs ≡ map {A = ℕ} {B = A} f (from 0 count)
   mapped-all count d xs l each =

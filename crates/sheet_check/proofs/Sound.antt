@@ -49,21 +49,21 @@ module _ (dims late perm rows columns offsets : List ℕ) (tol : Float) (bodies 
       all_done (system_checks dims starts rows values perm late tol) (
         blocks-go n few,
         (
-          dims-go dims _ refl (dims-pass dims p.0),
+          dims-go dims (dims-pass dims p.0),
           (
             starts-done starts n (length rows) o,
             (
               stored-go (length rows) stored,
               (
-                rows-go from_diagonal starts rows n _ refl (rows_pass from_diagonal starts rows n p.1.1.0),
+                rows-go from_diagonal starts rows n (rows_pass from_diagonal starts rows n p.1.1.0),
                 (
-                  order-go starts rows n _ refl (order-pass starts rows n p.1.1.1.0),
+                  order-go starts rows n (order-pass starts rows n p.1.1.1.0),
                   (
                     values-go dims starts rows (length values) _ refl l,
                     (
-                      perm-go perm n _ refl (perm-pass perm n p.1.1.1.1.0),
+                      perm-go perm n (perm-pass perm n p.1.1.1.1.0),
                       (
-                        late-go late n _ refl (late-pass late n p.1.1.1.1.1.0),
+                        late-go late n (late-pass late n p.1.1.1.1.1.0),
                         (
                           tolerance-go tol (tolerance-pass tol p.1.1.1.1.1.1.0),
                           tt,

@@ -108,22 +108,17 @@ pub fn by_number(
     ensures { told result ≡ told_after dims.now late.now perm.now rows.now columns.now offsets.now tol bodies size (number_checks dims.now late.now perm.now rows.now columns.now offsets.now tol bodies size) }
 {
     let n = dims.len();
-    let m = rows.len();
-    let k5 = first_row(starts, rows, n, Least::Diagonal);
-    if k5 < m {
-        return Sheet::Row { place: k5 };
+    if let Some(place) = first_row(starts, rows, n, Least::Diagonal) {
+        return Sheet::Row { place };
     }
-    let k6 = first_fall(starts, rows, n);
-    if k6 < m {
-        return Sheet::Order { place: k6 };
+    if let Some(place) = first_fall(starts, rows, n) {
+        return Sheet::Order { place };
     }
-    let k8 = first_perm(perm, n);
-    if k8 < n + 1 {
-        return Sheet::Permutation { place: k8 };
+    if let Some(place) = first_perm(perm, n) {
+        return Sheet::Permutation { place };
     }
-    let k9 = first_late(late, n);
-    if k9 < n + 1 {
-        return Sheet::Late { place: k9 };
+    if let Some(place) = first_late(late, n) {
+        return Sheet::Late { place };
     }
     if !is_tolerance(tol) {
         return Sheet::Tolerance;
@@ -150,9 +145,8 @@ pub fn by_table(
     ensures { told result ≡ told_after dims.now late.now perm.now rows.now columns.now offsets.now tol bodies size (table_checks dims.now late.now perm.now rows.now columns.now offsets.now tol bodies size) }
 {
     let n = dims.len();
-    let k2 = first_dim(dims);
-    if k2 < n {
-        return Sheet::Dimension { place: k2 };
+    if let Some(place) = first_dim(dims) {
+        return Sheet::Dimension { place };
     }
     let k3 = first_column(columns, n);
     if k3 < columns.len() {

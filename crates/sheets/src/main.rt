@@ -6,6 +6,8 @@
 use fit_answer::answer;
 use render::Line;
 use sheet_bytes::cores::u32_at;
+use word_list::cases::{BadList, Case, replay};
+use word_list::tally::{Count, Tally};
 
 const STDIN: i32 = 0;
 
@@ -14,88 +16,50 @@ const STDOUT: i32 = 1;
 // The turns at the list at most, its end among them.
 const MOST: u64 = 65536;
 
-// What a turn finds.
-#[derive(Clone, Copy)]
-enum Turn {
-    End,
-    // The list is cut, or a part of it is longer than its room.
-    Bad,
-    Sheet { accepted: bool, right: bool },
-}
+// The two kinds of sheets.
+const ACCEPTED: usize = 0;
 
-// How many were found, and how many of them came out as the list says.
-#[derive(Clone, Copy)]
-struct Count {
-    found: u64,
-    right: u64,
-}
+const REFUSED: usize = 1;
 
 fn main() {
-    let mut accepted = Count { found: 0, right: 0 };
-    let mut refused = Count { found: 0, right: 0 };
-    let mut turns: u64 = 0;
-    while turns < MOST {
-        turns += 1;
-        let turn = next();
-        match turn {
-            Turn::End => {
-                summary(accepted, refused);
-                return;
-            }
-            Turn::Bad => {
-                line(b"bad list at sheet ", turns);
-                return;
-            }
-            Turn::Sheet {
-                accepted: a,
-                right: r,
-            } => {
-                if a {
-                    accepted = more(accepted, r);
-                } else {
-                    refused = more(refused, r);
-                }
-                if !r {
-                    line(b"another answer to sheet ", turns);
-                }
-            }
-        }
+    match replay::<2, _, _>(MOST, next, other) {
+        Ok(tally) => summary(&tally),
+        Err(at) => line(b"bad list at sheet ", at),
     }
-    line(b"bad list at sheet ", turns);
 }
 
-// The next sheet of the list, answered.
-fn next() -> Turn {
+// A sheet that is answered otherwise.
+fn other(at: u64, _kind: usize) {
+    line(b"another answer to sheet ", at);
+}
+
+// The next sheet of the list, answered. The list is bad where it is cut, or a part of it is longer than its room.
+fn next() -> Result<Option<Case>, BadList> {
     let mut head = [0u8; 8];
     let got = io::read_full(STDIN, &mut head);
     if got < 4 {
-        return Turn::Bad;
+        return Err(BadList {});
     }
     let sheet = u32_at(&head, 0);
     if sheet == 4294967295 {
-        return Turn::End;
+        return Ok(None);
     }
     if got < 8 {
-        return Turn::Bad;
+        return Err(BadList {});
     }
     let answer = u32_at(&head, 4);
-    replay(sheet as usize, answer as usize)
+    Ok(Some(called(sheet as usize, answer as usize)?))
 }
 
 // A sheet of n bytes with an answer of m.
-fn replay(n: usize, m: usize) -> Turn {
+fn called(n: usize, m: usize) -> Result<Case, BadList> {
     let mut sheet = [0u8; 65536];
     let mut told = [0u8; 16384];
-    if !fill(&mut sheet, n) {
-        return Turn::Bad;
+    if !fill(&mut sheet, n) || !fill(&mut told, m) {
+        return Err(BadList {});
     }
-    if !fill(&mut told, m) {
-        return Turn::Bad;
-    }
-    Turn::Sheet {
-        accepted: begins(&told),
-        right: answered(&sheet, n, &told, m),
-    }
+    let kind = if begins(&told) { ACCEPTED } else { REFUSED };
+    Ok(Case::one(kind, answered(&sheet, n, &told, m)))
 }
 
 // The next n bytes of the list into the first places of a room; false where the list ends before, or the room does.
@@ -108,10 +72,7 @@ fn fill(room: &mut [u8], n: usize) -> bool {
 
 // Whether a text begins as the lines of an accepted night do.
 fn begins(text: &[u8]) -> bool {
-    if text.len() == 0 {
-        return false;
-    }
-    text[0] == b'b'
+    text.first() == Some(&b'b')
 }
 
 // Whether the first n bytes of the sheet are answered by the first m of what is told.
@@ -122,68 +83,24 @@ fn answered(sheet: &[u8], n: usize, told: &[u8], m: usize) -> bool {
     let mut out = [0u8; 24576];
     let r = answer(&sheet[..n], &mut out);
     match r {
-        Line::Accepted(t) => {
-            let k = t.bytes;
-            if k != m {
-                return false;
-            }
-            same(&out, told, m)
-        }
+        Line::Accepted(t) => t.bytes == m && out.get(..m) == told.get(..m),
         Line::Short { need: _ } => false,
     }
 }
 
-// Whether two texts have the same first n bytes.
-fn same(text: &[u8], told: &[u8], n: usize) -> bool {
-    if n > told.len() {
-        return false;
-    }
-    if n > text.len() {
-        return false;
-    }
-    let mut i: usize = 0;
-    while i < n {
-        if text[i] != told[i] {
-            return false;
-        }
-        i += 1;
-    }
-    true
-}
-
-// One more, or the greatest number again.
-fn up(n: u64) -> u64 {
-    if n < u64::MAX { n + 1 } else { n }
-}
-
-fn more(c: Count, right: bool) -> Count {
-    let found = up(c.found);
-    if right {
-        return Count {
-            found,
-            right: up(c.right),
-        };
-    }
-    Count {
-        found,
-        right: c.right,
-    }
-}
-
-fn summary(accepted: Count, refused: Count) {
-    counts(b"accepted ", accepted);
-    counts(b"refused ", refused);
-    if accepted.right == accepted.found {
-        if refused.right == refused.found {
-            io::write_all(STDOUT, b"all as the list says\n");
-        }
+fn summary(tally: &Tally<2>) {
+    counts(b"accepted ", tally.counts[ACCEPTED]);
+    counts(b"refused ", tally.counts[REFUSED]);
+    let all = tally.total();
+    if all.right == all.cases {
+        io::write_all(STDOUT, b"all as the list says\n");
     }
 }
 
 fn counts(label: &[u8], c: Count) {
     io::write_all(STDOUT, label);
-    io::print_decimal(STDOUT, c.right);
-    line(b" of ", c.found);
+    io::print_decimal(STDOUT, c.right as u64);
+    line(b" of ", c.cases as u64);
 }
 
 fn line(label: &[u8], n: u64) {

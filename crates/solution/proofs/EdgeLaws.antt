@@ -10,7 +10,7 @@ use lib.ListN.{length, get_or, set, length-map, get_or-map}
 use lib.Seq.{ext_get_or, get_or-set_same, get_or-set_other}
 use Rattle.graph.specs.Order.{Permutes}
 use Rattle.graph.proofs.SetLaws.{decide, eqb_of}
-use Rattle.buckets.proofs.Lists.{get_d_any}
+use Rattle.buckets.proofs.Lists.{get_or_any}
 use Rattle.order.specs.Order.{Inverse}
 use Rattle.order.proofs.Laws.{below_at, once-at}
 use Rattle.tables.specs.Verdict.{at}
@@ -24,7 +24,7 @@ taken_at : (l : List Float) (places : List ℕ) (k : ℕ) → k < length places 
 taken_at l places k h =
     let f : ℕ → Float = λ p. get_or l p nan in
     let m = length-map {A = ℕ} {B = Float} places f in
-    get_d_any (taken l places) k nan (f 0) (omega arith) ∙ get_or-map {A = ℕ} {B = Float} f places k 0
+    get_or_any (taken l places) k nan (f 0) (omega arith) ∙ get_or-map {A = ℕ} {B = Float} f places k 0
 
 module _ (perm : List ℕ) (b : List Float) where
   pub permuted-length : length (permuted perm b) ≡ length perm
@@ -67,7 +67,7 @@ module _ (perm : List ℕ) (p : Permutes (length perm) perm) where
         (λ o h.
         let b = inverse.back o (omega arith) in
         ap (λ (q : ℕ). get_or x q z) (sym b.1) ∙ done (at inv o) b.0
-        ∙ sym (get_d_any (map {A = ℕ} {B = A} f inv) o z (f 0) (omega arith) ∙ get_or-map {A = ℕ} {B = A} f inv o 0))
+        ∙ sym (get_or_any (map {A = ℕ} {B = A} f inv) o z (f 0) (omega arith) ∙ get_or-map {A = ℕ} {B = A} f inv o 0))
 
   pub unpermuted-all : (x y : List Float) → length x ≡ length perm → ((i : ℕ) → i < length perm → get_or x (at perm i) nan ≡ get_or y i nan) → x ≡ unpermuted perm y
   unfolding unpermuted

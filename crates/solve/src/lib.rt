@@ -2,18 +2,19 @@
 // then anything is written.
 #![tactic(auto)]
 
-ghost use Rattle.std.specs.Prelude.{◌≡◌, length};
+ghost use Rattle.std.specs.Prelude.{◌≡◌, true, length};
 ghost use Rattle.refusal.specs.Refusal.{refuses, first_of, verdict};
 ghost use Rattle.needs.specs.Needs.{need_checks};
 ghost use Rattle.tables.specs.Verdict.{past_diagonal};
 ghost use Rattle.tables.specs.Sound.{PlanSound, Columns};
+ghost use Rattle.solve_checks.specs.Outcome.{told_solve_error};
 ghost use Rattle.solve_match.specs.Verdict.{match_verdict};
 ghost use Rattle.solve.specs.Solve.{told, lent_list, call_verdict, call, Solves};
 
 use factor_tables::cores::scalars;
 use needs::{Room, first_short};
 use refusal::Worked;
-use solve_checks::{SolveTables, check_solve};
+use solve_checks::{SolveTablesError, check_solve};
 use solve_core::cores::solve_lent;
 use solve_match::cores::{Matched, first_mismatch};
 
@@ -168,7 +169,7 @@ fn check_call(
         dims, starts, rows, perm, late, parents, l_starts, l_rows, l_values,
     );
     match tables {
-        SolveTables::Accepted(_) => lent_core(
+        Ok(_) => lent_core(
             dims,
             starts,
             rows,
@@ -187,19 +188,28 @@ fn check_call(
             sizes,
             scalar_starts,
         ),
-        SolveTables::Blocks => Solved::Blocks,
-        SolveTables::Dimension { place } => Solved::Dimension { place },
-        SolveTables::Starts { place } => Solved::Starts { place },
-        SolveTables::LStarts { place } => Solved::LStarts { place },
-        SolveTables::Stored => Solved::Stored,
-        SolveTables::Row { place } => Solved::Row { place },
-        SolveTables::LRow { place } => Solved::LRow { place },
-        SolveTables::Parent { block } => Solved::Parent { block },
-        SolveTables::Order { place } => Solved::Order { place },
-        SolveTables::LOrder { place } => Solved::LOrder { place },
-        SolveTables::LValues => Solved::LValues,
-        SolveTables::Permutation { place } => Solved::Permutation { place },
-        SolveTables::Late { place } => Solved::Late { place },
+        Err(e) => of_tables(e),
+    }
+}
+
+// A refusal of the tables, as the solve's own.
+fn of_tables(e: SolveTablesError) -> Solved
+    ensures { (told result ≡ told_solve_error e) × (refuses (told result) ≡ true) }
+{
+    match e {
+        SolveTablesError::Blocks => Solved::Blocks,
+        SolveTablesError::Dimension { place } => Solved::Dimension { place },
+        SolveTablesError::Starts { place } => Solved::Starts { place },
+        SolveTablesError::LStarts { place } => Solved::LStarts { place },
+        SolveTablesError::Stored => Solved::Stored,
+        SolveTablesError::Row { place } => Solved::Row { place },
+        SolveTablesError::LRow { place } => Solved::LRow { place },
+        SolveTablesError::Parent { block } => Solved::Parent { block },
+        SolveTablesError::Order { place } => Solved::Order { place },
+        SolveTablesError::LOrder { place } => Solved::LOrder { place },
+        SolveTablesError::LValues => Solved::LValues,
+        SolveTablesError::Permutation { place } => Solved::Permutation { place },
+        SolveTablesError::Late { place } => Solved::Late { place },
     }
 }
 

@@ -8,19 +8,18 @@ pub mod cores;
 
 ghost use Rattle.std.specs.Prelude.{◌≡◌};
 ghost use Rattle.solve_checks.specs.Verdict.{solve_verdict};
-ghost use Rattle.solve_checks.specs.Outcome.{told_solve};
+ghost use Rattle.solve_checks.specs.Outcome.{told_solve, told_solve_error};
 
 use crate::cores::first_parent_of;
 use checks::{MAX_BLOCKS, MAX_STORED};
 use columns::cores::{Least, first_fall, first_row};
 use factor_order::cores::area_under;
-use refusal::Worked;
+use refusal::Refusal;
 use tables::cores::{first_dim, first_late, first_perm, first_start};
 
-// The outcome of a check of the tables of a solve.
-#[derive(Clone, Copy)]
-pub enum SolveTables {
-    Accepted(Worked),
+// The refusals of a check of the tables of a solve.
+#[derive(Clone, Copy, Debug, PartialEq, Eq)]
+pub enum SolveTablesError {
     // 1
     Blocks,
     // 2: the block.
@@ -49,8 +48,31 @@ pub enum SolveTables {
     Late { place: usize },
 }
 
+impl Refusal for SolveTablesError {
+    ghost told = { told_solve_error };
+
+    fn number(&self) -> u32 {
+        match self {
+            SolveTablesError::Blocks => 1,
+            SolveTablesError::Dimension { place: _ } => 2,
+            SolveTablesError::Starts { place: _ } => 3,
+            SolveTablesError::LStarts { place: _ } => 3,
+            SolveTablesError::Stored => 4,
+            SolveTablesError::Row { place: _ } => 5,
+            SolveTablesError::LRow { place: _ } => 5,
+            SolveTablesError::Parent { block: _ } => 5,
+            SolveTablesError::Order { place: _ } => 6,
+            SolveTablesError::LOrder { place: _ } => 6,
+            SolveTablesError::LValues => 7,
+            SolveTablesError::Permutation { place: _ } => 8,
+            SolveTablesError::Late { place: _ } => 9,
+        }
+    }
+}
+
 // A's tables, the permutation, the late flags, and the tables of a factor: the parents of its blocks, whatever their count, and its
 // starts and rows, whose column j stores rows past j.
+#[tactic(auto, using(crate::proofs::SolveLaws::solve_laws))]
 pub fn check_solve(
     dims: &[u32],
     starts: &[u32],
@@ -61,61 +83,50 @@ pub fn check_solve(
     l_starts: &[u32],
     l_rows: &[u32],
     l_values: &[f64],
-) -> SolveTables
+) -> Result<(), SolveTablesError>
     ensures { told_solve result ≡ solve_verdict dims.now starts.now rows.now perm.now late.now parents.now l_starts.now l_rows.now l_values.now }
 {
     let n = dims.len();
     if n > MAX_BLOCKS {
-        return SolveTables::Blocks;
+        return Err(SolveTablesError::Blocks);
     }
-    let k2 = first_dim(dims);
-    if k2 < n {
-        return SolveTables::Dimension { place: k2 };
+    if let Some(place) = first_dim(dims) {
+        return Err(SolveTablesError::Dimension { place });
     }
     let m = rows.len();
-    let k3 = first_start(starts, n, m);
-    if k3 < n + 2 {
-        return SolveTables::Starts { place: k3 };
+    if let Some(place) = first_start(starts, n, m) {
+        return Err(SolveTablesError::Starts { place });
     }
-    let lm = l_rows.len();
-    let l3 = first_start(l_starts, n, lm);
-    if l3 < n + 2 {
-        return SolveTables::LStarts { place: l3 };
+    if let Some(place) = first_start(l_starts, n, l_rows.len()) {
+        return Err(SolveTablesError::LStarts { place });
     }
     if m > MAX_STORED {
-        return SolveTables::Stored;
+        return Err(SolveTablesError::Stored);
     }
-    let k5 = first_row(starts, rows, n, Least::Diagonal);
-    if k5 < m {
-        return SolveTables::Row { place: k5 };
+    if let Some(place) = first_row(starts, rows, n, Least::Diagonal) {
+        return Err(SolveTablesError::Row { place });
     }
-    let l5 = first_row(l_starts, l_rows, n, Least::PastDiagonal);
-    if l5 < lm {
-        return SolveTables::LRow { place: l5 };
+    if let Some(place) = first_row(l_starts, l_rows, n, Least::PastDiagonal) {
+        return Err(SolveTablesError::LRow { place });
     }
-    let p5 = first_parent_of(parents, n);
-    if p5 < parents.len() {
-        return SolveTables::Parent { block: p5 };
+    if let Some(block) = first_parent_of(parents, n) {
+        return Err(SolveTablesError::Parent { block });
     }
-    let k6 = first_fall(starts, rows, n);
-    if k6 < m {
-        return SolveTables::Order { place: k6 };
+    if let Some(place) = first_fall(starts, rows, n) {
+        return Err(SolveTablesError::Order { place });
     }
-    let l6 = first_fall(l_starts, l_rows, n);
-    if l6 < lm {
-        return SolveTables::LOrder { place: l6 };
+    if let Some(place) = first_fall(l_starts, l_rows, n) {
+        return Err(SolveTablesError::LOrder { place });
     }
-    let k8 = first_perm(perm, n);
-    if k8 < n + 1 {
-        return SolveTables::Permutation { place: k8 };
+    if let Some(place) = first_perm(perm, n) {
+        return Err(SolveTablesError::Permutation { place });
     }
-    let k9 = first_late(late, n);
-    if k9 < n + 1 {
-        return SolveTables::Late { place: k9 };
+    if let Some(place) = first_late(late, n) {
+        return Err(SolveTablesError::Late { place });
     }
     let need = area_under(dims, perm, late, l_starts, l_rows);
     if l_values.len() != need {
-        return SolveTables::LValues;
+        return Err(SolveTablesError::LValues);
     }
-    SolveTables::Accepted(Worked {})
+    Ok(())
 }

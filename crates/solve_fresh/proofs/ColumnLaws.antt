@@ -9,18 +9,20 @@ use borrow.Author.Tests.{lt-ltb, le-leb, lt-leb, eq-eqb, ne_eqb}
 use lib.Dec.{leb, ltb, eqb}
 use lib.ListN.{length}
 use Rattle.refusal.specs.Refusal.{done}
-use Rattle.tables.specs.Search.{first}
+use Rattle.tables.specs.Search.{fault}
 use Rattle.tables.specs.Verdict.{at, rises_at, start_ok, row_ok, row_fits, order_ok, order_fits, past_diagonal}
 use Rattle.tables.specs.Sound.{Columns}
 use Rattle.tables.proofs.Bools.{or-true}
-use Rattle.tables.proofs.SearchLaws.{lt-or-ge, first-end, first_past}
+use Rattle.tables.proofs.SearchLaws.{lt-or-ge}
+use Rattle.tables.proofs.FaultLaws.{fault-none}
+use Rattle.std.specs.Prelude.{None}
 use Rattle.tables.proofs.ColumnLaws.{column-is, in_some}
 use Rattle.solve_checks.specs.Verdict.{l_starts_check, l_rows_check, l_order_check}
 use Rattle.solve_checks.proofs.CheckLaws.{l-starts-go, l-rows-go, l-order-go}
 
--- a search whose test holds at every place ends
-pub ends : (ok : ℕ → Bool) (end : ℕ) → ((k : ℕ) → k < end → ok k ≡ true) → end ≡ first ok 0 end
-ends ok end all = sym (first_past ok 0 end end zero-le (omega arith) (λ k a h. all k h) ∙ first-end ok end end (omega arith))
+-- a search whose test holds at every place finds none
+pub ends : (ok : ℕ → Bool) (end : ℕ) → ((k : ℕ) → k < end → ok k ≡ true) → None ≡ fault ok 0 end
+ends ok end all = fault-none ok 0 end (λ k _ h. all k h)
 
 module _ {n : ℕ} {l_starts l_rows : List ℕ} (c : Columns past_diagonal n l_starts l_rows) where
   -- ---- 3
@@ -58,7 +60,7 @@ module _ {n : ℕ} {l_starts l_rows : List ℕ} (c : Columns past_diagonal n l_s
       beyond l = rw (lt-leb k n l) (le-leb (length l_starts) k (omega (arith, c.ordered.entries)))
 
   pub starts-pass : l_starts_check l_starts n (length l_rows) ≡ done
-  starts-pass = l-starts-go l_starts n (length l_rows) (n + 2) (ends (start_ok l_starts n (length l_rows)) (n + 2) start-ok) (omega arith)
+  starts-pass = l-starts-go l_starts n (length l_rows) (ends (start_ok l_starts n (length l_rows)) (n + 2) start-ok)
 
   -- ---- 5
 
@@ -71,7 +73,7 @@ module _ {n : ℕ} {l_starts l_rows : List ℕ} (c : Columns past_diagonal n l_s
       rw (column-is c.ordered j p l lo hi, le-leb (j + 1) (at l_rows p) r.0) (lt-ltb (at l_rows p) n r.1))
 
   pub rows_pass : l_rows_check l_starts l_rows n ≡ done
-  rows_pass = l-rows-go l_starts l_rows n (length l_rows) (ends (row_fits past_diagonal l_starts l_rows n) (length l_rows) row-ok) (omega arith)
+  rows_pass = l-rows-go l_starts l_rows n (ends (row_fits past_diagonal l_starts l_rows n) (length l_rows) row-ok)
 
   -- ---- 6
 
@@ -87,4 +89,4 @@ module _ {n : ℕ} {l_starts l_rows : List ℕ} (c : Columns past_diagonal n l_s
           (λ (s : p ≤ at l_starts j). rw (le-leb p (at l_starts j) s)) (lt-or-ge (at l_starts j) p)
 
   pub order-pass : l_order_check l_starts l_rows n ≡ done
-  order-pass = l-order-go l_starts l_rows n (length l_rows) (ends (order_fits l_starts l_rows n) (length l_rows) order-ok) (omega arith)
+  order-pass = l-order-go l_starts l_rows n (ends (order_fits l_starts l_rows n) (length l_rows) order-ok)

@@ -30,7 +30,7 @@ module _ (n : ℕ) (parents : List ℕ) (rule : (k : ℕ) → k < length parents
       greater g = rw (lt-ltb k (at parents k) g.0, lt-ltb (at parents k) n g.1) (or-true (eqb (at parents k) root))
 
   ruled-pass : tree_check n parents ≡ done
-  ruled-pass = tree-go n parents (length parents) (ends (parent_fits n parents) (length parents) parent-fits) (omega arith)
+  ruled-pass = tree-go n parents (ends (parent_fits n parents) (length parents) parent-fits)
 
 pub parents-pass : (linked : ℕ → ℕ → Bool) (n : ℕ) → ((a b : ℕ) → T (linked a b) → T (linked b a)) → n ≤ 4096 → tree_check n (parents_of linked n) ≡ done
 parents-pass linked n symm few = ruled-pass n (parents_of linked n) (λ k h. parents-rule linked n symm few k (subst (λ (m : ℕ). k < m) (parents-length linked n symm) h))

@@ -5,7 +5,7 @@ use native.Mathlib.Omega.{arith}
 use native.Mathlib.Numerals.{add-one}
 use native.Mathlib.Nat.{mul-le-mul, mul-suc, mul-zero, mul-add}
 use Rattle.graph.specs.Sets.{elem, from, between, sum}
-use Rattle.graph.specs.Symbolic.{reach, rows}
+use Rattle.graph.specs.Symbolic.{rows}
 use Rattle.graph.specs.Count.{products_of}
 use Rattle.graph.proofs.SetLaws.{between-elim, between-intro, between-inc, inc-uniq}
 use Rattle.graph.proofs.CountLaws.{same_test}

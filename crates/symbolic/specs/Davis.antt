@@ -1,5 +1,5 @@
 -- What `reach::reach` finds where the parents are the tree's, whatever mark and stamps an earlier walk left: Davis's reach. Assumes nothing.
-use Rattle.std.specs.Prelude.{◌≡◌, ℕ, ◌<◌, ◌≤◌, T, ◌↔◌, List, length}
+use Rattle.std.specs.Prelude.{◌≡◌, ℕ, ◌<◌, T, ◌↔◌, List, length}
 use Rattle.graph.specs.Sets.{elem}
 use Rattle.graph.specs.Tree.{Reaches}
 use Rattle.graph.specs.Symbolic.{reach, rows}

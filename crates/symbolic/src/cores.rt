@@ -51,9 +51,7 @@ fn count_climbs(
     ensures stamp_after { stamp.new ≡ (reached parent.now mark j rows.now stamp.old).stamps }
 {
     let mut total: usize = 0;
-    let mut q = 0;
-    while q < rows.len() {
-        let i = rows[q];
+    for &i in rows {
         if i < j {
             let mut at = i as usize;
             'climb: while stamp[at] != mark {
@@ -67,7 +65,6 @@ fn count_climbs(
                 at = up as usize;
             }
         }
-        q += 1;
     }
     total
 }
@@ -92,15 +89,13 @@ pub fn counts(
     buckets::cores::fill(count, 0);
     let n = parent.len();
     let mut numbers: usize = 0;
-    let mut j: usize = 0;
-    while j < n {
+    for j in 0..n {
         let from = starts[j] as usize;
         let to = starts[j + 1] as usize;
         let mark = j as u32 + 1;
         stamp[j] = mark;
         let added = count_climbs(parent, &rows[from..to], sizes, j as u32, mark, stamp, count);
         numbers += sizes[j] as usize * added;
-        j += 1;
     }
     numbers
 }
@@ -122,9 +117,7 @@ pub fn store_climbs(
     ensures table_after { table.new ≡ stores j (reverse (reached parent.now mark j rows.now stamp.old).found) next.old table.old }
     ensures stamp_after { stamp.new ≡ (reached parent.now mark j rows.now stamp.old).stamps }
 {
-    let mut q = 0;
-    while q < rows.len() {
-        let i = rows[q];
+    for &i in rows {
         if i < j {
             let mut at = i as usize;
             'climb: while stamp[at] != mark {
@@ -139,7 +132,6 @@ pub fn store_climbs(
                 at = up as usize;
             }
         }
-        q += 1;
     }
 }
 
@@ -163,14 +155,12 @@ pub fn fill(
     buckets::cores::fill(stamp, 0);
     buckets::cores::copy(l_starts, next);
     let n = parent.len();
-    let mut j = 0;
-    while j < n {
+    for j in 0..n {
         let from = starts[j] as usize;
         let to = starts[j + 1] as usize;
         let mark = j as u32 + 1;
         stamp[j] = mark;
         store_climbs(parent, &rows[from..to], j as u32, mark, stamp, next, l_rows);
-        j += 1;
     }
 }
 
@@ -198,12 +188,9 @@ pub fn add_up(count: &[u32]) -> Totals
 {
     let mut stored: usize = 0;
     let mut products: u64 = 0;
-    let mut k: usize = 0;
-    while k < count.len() {
-        let c = count[k];
+    for &c in count {
         stored += wide(c);
         products += products_of(c);
-        k += 1;
     }
     Totals { stored, products }
 }

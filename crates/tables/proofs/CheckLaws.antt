@@ -1,14 +1,16 @@
 -- What each check says where its test fails, and where it holds, and what one that passes says of its test: a check is one test. Assumes nothing.
-use Rattle.std.specs.Prelude.{◌≡◌, ℕ, ◌+◌, ◌<◌, ◌≤◌, Bool, true, false, cond, ltb, List, ◌∷◌, length}
+use Rattle.std.specs.Prelude.{◌≡◌, ℕ, ◌+◌, ◌<◌, ◌≤◌, Bool, true, false, cond, ltb, Some, None, List, ◌∷◌, length}
 use mathlib.Core.Path.{refl, sym, ◌∙◌}
+use mathlib.Core.Bool.{false≢true}
 use borrow.Author.Tests.{lt-ltb, le-ltb, ltb-false, eq-eqb, ne_eqb, eqb-true}
 use lib.Ieee.{Float}
 use Rattle.scalar.specs.Scalar.{is_tolerance}
 use Rattle.refusal.specs.Refusal.{Told, done, refuses, verdict, too_many_blocks, bad_dimension, bad_starts, too_many_stored, out_of_range, bad_parent, not_increasing, bad_value_count, bad_permutation, bad_late_flags, bad_tolerance}
 use Rattle.refusal.specs.Check.{tolerance_check}
 use Rattle.refusal.proofs.Laws.{verdict-stops, verdict-goes}
-use Rattle.tables.specs.Search.{first}
+use Rattle.tables.specs.Search.{first, fault}
 use Rattle.tables.specs.Verdict.{fault_in, dim_ok, start_ok, row_fits, order_fits, perm_ok, late_ok, parent_ok, areas, blocks_check, dims_check, starts_check, stored_check, rows_check, parents_check, order_check, values_check, perm_check, late_check}
+use Rattle.tables.proofs.FaultLaws.{fault-some, fault-past}
 
 -- ---- a list of checks, from its front
 
@@ -18,20 +20,21 @@ stops {check} checks e r = sym (verdict-stops check checks (rw e r) ∙ e)
 pub goes : {check : Told} (checks : List Told) → check ≡ done → verdict checks ≡ verdict (check ∷ checks)
 goes {check} checks e = sym (verdict-goes check checks e)
 
--- ---- a search whose answer is k
+-- ---- a search and what it answered
 
 module _ (ok : ℕ → Bool) (end : ℕ) (refusal : ℕ → Told) where
-  fault-at : (k : ℕ) → k ≡ first ok 0 end → k < end → fault_in ok end refusal ≡ refusal k
-  fault-at k e h = rw (← e, lt-ltb k end h)
+  pub fault-stop : (k : ℕ) → Some k ≡ fault ok 0 end → fault_in ok end refusal ≡ refusal k
+  fault-stop k e = let f = fault-some ok 0 end k e in rw (← f.0, lt-ltb k end f.1)
 
-  fault-none : (k : ℕ) → k ≡ first ok 0 end → end ≤ k → fault_in ok end refusal ≡ done
-  fault-none k e h = rw (← e, le-ltb k end h)
+  pub fault-go : None ≡ fault ok 0 end → fault_in ok end refusal ≡ done
+  fault-go e = rw (le-ltb _ end (fault-past ok 0 end e))
 
-  fault-passes : ((k : ℕ) → refuses (refusal k) ≡ true) → refuses (fault_in ok end refusal) ≡ false → end ≤ first ok 0 end
-  fault-passes r h = ltb-false _ _ (by-test (ltb (first ok 0 end) end) h)
+  pub fault-pass : ((k : ℕ) → refuses (refusal k) ≡ true) → refuses (fault_in ok end refusal) ≡ false → None ≡ fault ok 0 end
+  unfolding fault
+  fault-pass r h = by-test (ltb (first ok 0 end) end) h
     where
-      by-test : (b : Bool) → refuses (cond b (refusal (first ok 0 end)) done) ≡ false → b ≡ false
-      by-test true g = sym (r (first ok 0 end)) ∙ g
+      by-test : (b : Bool) → refuses (cond b (refusal (first ok 0 end)) done) ≡ false → None ≡ cond b (Some (first ok 0 end)) None
+      by-test true g = absurd (false≢true (sym g ∙ r (first ok 0 end)))
       by-test false g = refl
 
 -- ---- a test that is not to hold, or to hold
@@ -62,32 +65,32 @@ module _ (n : ℕ) where
 -- ---- 2
 
 module _ (dims : List ℕ) where
-  pub dims-stop : (k : ℕ) → k ≡ first (dim_ok dims) 0 (length dims) → k < length dims → dims_check dims ≡ bad_dimension k
+  pub dims-stop : (k : ℕ) → Some k ≡ fault (dim_ok dims) 0 (length dims) → dims_check dims ≡ bad_dimension k
   unfolding dims_check
-  dims-stop k e h = fault-at (dim_ok dims) (length dims) bad_dimension k e h
+  dims-stop k e = fault-stop (dim_ok dims) (length dims) bad_dimension k e
 
-  pub dims-go : (k : ℕ) → k ≡ first (dim_ok dims) 0 (length dims) → length dims ≤ k → dims_check dims ≡ done
+  pub dims-go : None ≡ fault (dim_ok dims) 0 (length dims) → dims_check dims ≡ done
   unfolding dims_check
-  dims-go k e h = fault-none (dim_ok dims) (length dims) bad_dimension k e h
+  dims-go e = fault-go (dim_ok dims) (length dims) bad_dimension e
 
-  pub dims-pass : refuses (dims_check dims) ≡ false → length dims ≤ first (dim_ok dims) 0 (length dims)
+  pub dims-pass : refuses (dims_check dims) ≡ false → None ≡ fault (dim_ok dims) 0 (length dims)
   unfolding dims_check
-  dims-pass h = fault-passes (dim_ok dims) (length dims) bad_dimension (λ k. refl) h
+  dims-pass h = fault-pass (dim_ok dims) (length dims) bad_dimension (λ k. refl) h
 
 -- ---- 3
 
 module _ (starts : List ℕ) (n m : ℕ) where
-  pub starts-stop : (k : ℕ) → k ≡ first (start_ok starts n m) 0 (n + 2) → k < n + 2 → starts_check starts n m ≡ bad_starts k
+  pub starts-stop : (k : ℕ) → Some k ≡ fault (start_ok starts n m) 0 (n + 2) → starts_check starts n m ≡ bad_starts k
   unfolding starts_check
-  starts-stop k e h = fault-at (start_ok starts n m) (n + 2) bad_starts k e h
+  starts-stop k e = fault-stop (start_ok starts n m) (n + 2) bad_starts k e
 
-  pub starts-go : (k : ℕ) → k ≡ first (start_ok starts n m) 0 (n + 2) → n + 2 ≤ k → starts_check starts n m ≡ done
+  pub starts-go : None ≡ fault (start_ok starts n m) 0 (n + 2) → starts_check starts n m ≡ done
   unfolding starts_check
-  starts-go k e h = fault-none (start_ok starts n m) (n + 2) bad_starts k e h
+  starts-go e = fault-go (start_ok starts n m) (n + 2) bad_starts e
 
-  pub starts-pass : refuses (starts_check starts n m) ≡ false → n + 2 ≤ first (start_ok starts n m) 0 (n + 2)
+  pub starts-pass : refuses (starts_check starts n m) ≡ false → None ≡ fault (start_ok starts n m) 0 (n + 2)
   unfolding starts_check
-  starts-pass h = fault-passes (start_ok starts n m) (n + 2) bad_starts (λ k. refl) h
+  starts-pass h = fault-pass (start_ok starts n m) (n + 2) bad_starts (λ k. refl) h
 
 -- ---- 4
 
@@ -107,45 +110,45 @@ module _ (m : ℕ) where
 -- ---- 5
 
 module _ (least : ℕ → ℕ) (starts rows : List ℕ) (n : ℕ) where
-  pub rows-stop : (k : ℕ) → k ≡ first (row_fits least starts rows n) 0 (length rows) → k < length rows → rows_check least starts rows n ≡ out_of_range k
+  pub rows-stop : (k : ℕ) → Some k ≡ fault (row_fits least starts rows n) 0 (length rows) → rows_check least starts rows n ≡ out_of_range k
   unfolding rows_check
-  rows-stop k e h = fault-at (row_fits least starts rows n) (length rows) out_of_range k e h
+  rows-stop k e = fault-stop (row_fits least starts rows n) (length rows) out_of_range k e
 
-  pub rows-go : (k : ℕ) → k ≡ first (row_fits least starts rows n) 0 (length rows) → length rows ≤ k → rows_check least starts rows n ≡ done
+  pub rows-go : None ≡ fault (row_fits least starts rows n) 0 (length rows) → rows_check least starts rows n ≡ done
   unfolding rows_check
-  rows-go k e h = fault-none (row_fits least starts rows n) (length rows) out_of_range k e h
+  rows-go e = fault-go (row_fits least starts rows n) (length rows) out_of_range e
 
-  pub rows_pass : refuses (rows_check least starts rows n) ≡ false → length rows ≤ first (row_fits least starts rows n) 0 (length rows)
+  pub rows_pass : refuses (rows_check least starts rows n) ≡ false → None ≡ fault (row_fits least starts rows n) 0 (length rows)
   unfolding rows_check
-  rows_pass h = fault-passes (row_fits least starts rows n) (length rows) out_of_range (λ k. refl) h
+  rows_pass h = fault-pass (row_fits least starts rows n) (length rows) out_of_range (λ k. refl) h
 
 module _ (parents : List ℕ) where
-  pub parents-stop : (k : ℕ) → k ≡ first (parent_ok parents) 0 (length parents) → k < length parents → parents_check parents ≡ bad_parent k
+  pub parents-stop : (k : ℕ) → Some k ≡ fault (parent_ok parents) 0 (length parents) → parents_check parents ≡ bad_parent k
   unfolding parents_check
-  parents-stop k e h = fault-at (parent_ok parents) (length parents) bad_parent k e h
+  parents-stop k e = fault-stop (parent_ok parents) (length parents) bad_parent k e
 
-  pub parents-go : (k : ℕ) → k ≡ first (parent_ok parents) 0 (length parents) → length parents ≤ k → parents_check parents ≡ done
+  pub parents-go : None ≡ fault (parent_ok parents) 0 (length parents) → parents_check parents ≡ done
   unfolding parents_check
-  parents-go k e h = fault-none (parent_ok parents) (length parents) bad_parent k e h
+  parents-go e = fault-go (parent_ok parents) (length parents) bad_parent e
 
-  pub parents-pass : refuses (parents_check parents) ≡ false → length parents ≤ first (parent_ok parents) 0 (length parents)
+  pub parents-pass : refuses (parents_check parents) ≡ false → None ≡ fault (parent_ok parents) 0 (length parents)
   unfolding parents_check
-  parents-pass h = fault-passes (parent_ok parents) (length parents) bad_parent (λ k. refl) h
+  parents-pass h = fault-pass (parent_ok parents) (length parents) bad_parent (λ k. refl) h
 
 -- ---- 6
 
 module _ (starts rows : List ℕ) (n : ℕ) where
-  pub order-stop : (k : ℕ) → k ≡ first (order_fits starts rows n) 0 (length rows) → k < length rows → order_check starts rows n ≡ not_increasing k
+  pub order-stop : (k : ℕ) → Some k ≡ fault (order_fits starts rows n) 0 (length rows) → order_check starts rows n ≡ not_increasing k
   unfolding order_check
-  order-stop k e h = fault-at (order_fits starts rows n) (length rows) not_increasing k e h
+  order-stop k e = fault-stop (order_fits starts rows n) (length rows) not_increasing k e
 
-  pub order-go : (k : ℕ) → k ≡ first (order_fits starts rows n) 0 (length rows) → length rows ≤ k → order_check starts rows n ≡ done
+  pub order-go : None ≡ fault (order_fits starts rows n) 0 (length rows) → order_check starts rows n ≡ done
   unfolding order_check
-  order-go k e h = fault-none (order_fits starts rows n) (length rows) not_increasing k e h
+  order-go e = fault-go (order_fits starts rows n) (length rows) not_increasing e
 
-  pub order-pass : refuses (order_check starts rows n) ≡ false → length rows ≤ first (order_fits starts rows n) 0 (length rows)
+  pub order-pass : refuses (order_check starts rows n) ≡ false → None ≡ fault (order_fits starts rows n) 0 (length rows)
   unfolding order_check
-  order-pass h = fault-passes (order_fits starts rows n) (length rows) not_increasing (λ k. refl) h
+  order-pass h = fault-pass (order_fits starts rows n) (length rows) not_increasing (λ k. refl) h
 
 -- ---- 7
 
@@ -165,32 +168,32 @@ module _ (dims starts rows : List ℕ) (count : ℕ) where
 -- ---- 8
 
 module _ (perm : List ℕ) (n : ℕ) where
-  pub perm-stop : (k : ℕ) → k ≡ first (perm_ok perm n) 0 (n + 1) → k < n + 1 → perm_check perm n ≡ bad_permutation k
+  pub perm-stop : (k : ℕ) → Some k ≡ fault (perm_ok perm n) 0 (n + 1) → perm_check perm n ≡ bad_permutation k
   unfolding perm_check
-  perm-stop k e h = fault-at (perm_ok perm n) (n + 1) bad_permutation k e h
+  perm-stop k e = fault-stop (perm_ok perm n) (n + 1) bad_permutation k e
 
-  pub perm-go : (k : ℕ) → k ≡ first (perm_ok perm n) 0 (n + 1) → n + 1 ≤ k → perm_check perm n ≡ done
+  pub perm-go : None ≡ fault (perm_ok perm n) 0 (n + 1) → perm_check perm n ≡ done
   unfolding perm_check
-  perm-go k e h = fault-none (perm_ok perm n) (n + 1) bad_permutation k e h
+  perm-go e = fault-go (perm_ok perm n) (n + 1) bad_permutation e
 
-  pub perm-pass : refuses (perm_check perm n) ≡ false → n + 1 ≤ first (perm_ok perm n) 0 (n + 1)
+  pub perm-pass : refuses (perm_check perm n) ≡ false → None ≡ fault (perm_ok perm n) 0 (n + 1)
   unfolding perm_check
-  perm-pass h = fault-passes (perm_ok perm n) (n + 1) bad_permutation (λ k. refl) h
+  perm-pass h = fault-pass (perm_ok perm n) (n + 1) bad_permutation (λ k. refl) h
 
 -- ---- 9
 
 module _ (late : List ℕ) (n : ℕ) where
-  pub late-stop : (k : ℕ) → k ≡ first (late_ok late n) 0 (n + 1) → k < n + 1 → late_check late n ≡ bad_late_flags k
+  pub late-stop : (k : ℕ) → Some k ≡ fault (late_ok late n) 0 (n + 1) → late_check late n ≡ bad_late_flags k
   unfolding late_check
-  late-stop k e h = fault-at (late_ok late n) (n + 1) bad_late_flags k e h
+  late-stop k e = fault-stop (late_ok late n) (n + 1) bad_late_flags k e
 
-  pub late-go : (k : ℕ) → k ≡ first (late_ok late n) 0 (n + 1) → n + 1 ≤ k → late_check late n ≡ done
+  pub late-go : None ≡ fault (late_ok late n) 0 (n + 1) → late_check late n ≡ done
   unfolding late_check
-  late-go k e h = fault-none (late_ok late n) (n + 1) bad_late_flags k e h
+  late-go e = fault-go (late_ok late n) (n + 1) bad_late_flags e
 
-  pub late-pass : refuses (late_check late n) ≡ false → n + 1 ≤ first (late_ok late n) 0 (n + 1)
+  pub late-pass : refuses (late_check late n) ≡ false → None ≡ fault (late_ok late n) 0 (n + 1)
   unfolding late_check
-  late-pass h = fault-passes (late_ok late n) (n + 1) bad_late_flags (λ k. refl) h
+  late-pass h = fault-pass (late_ok late n) (n + 1) bad_late_flags (λ k. refl) h
 
 -- ---- 10
 

@@ -1,15 +1,17 @@
 -- A search or a sum over all places of a row table is one column after the other, since each place of column j has j as its column. Assumes nothing.
-use Rattle.std.specs.Prelude.{◌≡◌, ℕ, zero, suc, ◌+◌, ◌-◌, ◌<◌, ◌≤◌, Bool, true, false, leb, List}
+use Rattle.std.specs.Prelude.{◌≡◌, ℕ, zero, suc, ◌+◌, ◌-◌, ◌<◌, ◌≤◌, Bool, true, false, leb, ◌⊎◌, List, Some, None}
 use Prim.Native.Nat.{zero-le}
-use mathlib.Core.Path.{sym, ◌∙◌}
+use mathlib.Core.Path.{◌∙◌}
 use native.Mathlib.Numerals.{add-one}
 use native.Mathlib.Omega.{arith}
-use mathlib.Core.Logic.{⊎_elim}
+use mathlib.Core.Logic.{inl, inr, ⊎_elim}
+use native.Mathlib.Nat.{eq-or-lt_of_le}
 use borrow.Author.Tests.{le-leb, lt-leb}
-use Rattle.tables.specs.Search.{first, sum}
+use Rattle.tables.specs.Search.{fault, sum}
 use Rattle.tables.specs.Verdict.{at, column_of}
 use Rattle.tables.specs.Sound.{Ordered}
-use Rattle.tables.proofs.SearchLaws.{lt-or-ge, first-at, first_past, first-ge, first-before, first-fails, sum_same, sum-split, Searched, Summed}
+use Rattle.tables.proofs.SearchLaws.{lt-or-ge, first-at, sum_same, sum-split, Summed}
+use Rattle.tables.proofs.FaultLaws.{fault-here, fault-none}
 
 module _ {starts : List ℕ} {n m : ℕ} (o : Ordered starts n m) where
   rises_by : (d i j : ℕ) → i + d ≡ j → j ≤ n → at starts i ≤ at starts j
@@ -36,27 +38,30 @@ module _ {starts : List ℕ} {n m : ℕ} (o : Ordered starts n m) where
           ⊎_elim (λ (s : p < at starts j). below j (omega arith) s) (λ (s : at starts j ≤ p). f j (omega arith) s (rw add-one q)) (lt-or-ge p (at starts j))
 
   -- ---- a search whose test of a place is that of its column
-  module _ (test : ℕ → ℕ → Bool) (j p : ℕ) (l : j < n) (e : p ≡ first (test j) (at starts j) (at starts (j + 1))) where
-    agree : (k : ℕ) → at starts j ≤ k → k < at starts (j + 1) → (b : Bool) → test j k ≡ b → test (column_of starts n k) k ≡ b
-    agree k lo hi b t = rw (column-is j k l lo hi) t
+  module _ (test : ℕ → ℕ → Bool) where
+    passes-here : (k : ℕ) → k < m → ((i : ℕ) → i < n → at starts i ≤ k → k < at starts (i + 1) → test i k ≡ true) → test (column_of starts n k) k ≡ true
+    passes-here k l each =
+        in_some k (test (column_of starts n k) k ≡ true) l (λ i h lo hi. rw (column-is i k h lo hi) (each i h lo hi))
 
-    module _ (s : Searched (λ k. test (column_of starts n k) k) 0 m (at starts j)) where
-      -- column j has the answer
-      pub column-failed : p < at starts (j + 1) → p ≡ first (λ k. test (column_of starts n k) k) 0 m
-      column-failed h =
-          let lo : at starts j ≤ p = omega (arith, e, first-ge (test j) (at starts j) (at starts (j + 1))) in
-          let fails : test j p ≡ false = rw (← e) at (first-fails (test j) (at starts j) (at starts (j + 1)) (o.rising j l) (rw e at h)) in
-          sym (s.same ∙ first-at (λ k. test (column_of starts n k) k) (at starts j) p m lo (omega (arith, o.inside (j + 1) (omega arith))) (λ k a b. agree k a (omega arith) true (first-before (test j) (at starts j) (at starts (j + 1)) k a (rw e at b))) (agree p lo h false fails))
+    -- the columns before j pass, and so do the places of j before p, where it fails
+    pub column-stops : (j p : ℕ) → j < n → at starts j ≤ p → p < at starts (j + 1) → ((i k : ℕ) → i < j → at starts i ≤ k → k < at starts (i + 1) → test i k ≡ true) → ((k : ℕ) → at starts j ≤ k → k < p → test j k ≡ true) → test j p ≡ false →
+        Some p ≡ fault (λ k. test (column_of starts n k) k) 0 m
+    column-stops j p l lo hi columns places fails =
+        fault-here (λ k. test (column_of starts n k) k) 0 p m zero-le inside (λ k _ h. passes-here k (omega (arith, inside)) (λ i a b c. before k h i a b c)) (rw (column-is j p l lo hi) fails)
+      where
+        inside : p < m
+        inside = omega (arith, o.inside (j + 1) (omega arith))
 
-      -- or it has none
-      pub column-passed : at starts (j + 1) ≤ p → Searched (λ k. test (column_of starts n k) k) 0 m (at starts (j + 1))
-      column-passed h =
-          record {
-            within = o.inside (j + 1) (omega arith);
-            same =
-                s.same
-                ∙ first_past (λ k. test (column_of starts n k) k) (at starts j) (at starts (j + 1)) m (o.rising j l) (o.inside (j + 1) (omega arith)) (λ k a b. agree k a b true (first-before (test j) (at starts j) (at starts (j + 1)) k a (omega arith)));
-          }
+        before : (k : ℕ) → k < p → (i : ℕ) → i < n → at starts i ≤ k → k < at starts (i + 1) → test i k ≡ true
+        before k h i a b c = ⊎_elim (λ (s : i < j). columns i k s b c) (λ (s : j ≤ i). here (eq-or-lt_of_le s)) (lt-or-ge i j)
+          where
+            here : (j ≡ i) ⊎ (j < i) → test i k ≡ true
+            here (inl e) = rw (← e) (places k (rw e b) h)
+            here (inr s) = absurd (omega (arith, starts-rise (j + 1) i (omega arith) (omega arith)))
+
+    -- each column passes
+    pub columns-pass : ((i k : ℕ) → i < n → at starts i ≤ k → k < at starts (i + 1) → test i k ≡ true) → None ≡ fault (λ k. test (column_of starts n k) k) 0 m
+    columns-pass each = fault-none (λ k. test (column_of starts n k) k) 0 m (λ k _ h. passes-here k h (λ i a b c. each i k a b c))
 
   -- ---- a sum whose term at a place is that of its column
   module _ (f : ℕ → ℕ → ℕ) (j s x : ℕ) (l : j < n) (e : x ≡ sum (f j) (at starts j) (at starts (j + 1))) (w : Summed (λ k. f (column_of starts n k) k) 0 m (at starts j) s) where

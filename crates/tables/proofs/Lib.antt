@@ -1,6 +1,7 @@
 -- What belongs to no one function. Each module says at its top what it shows.
 pub mod Bools
 pub mod SearchLaws
+pub mod FaultLaws
 pub mod ColumnLaws
 pub mod MarkLaws
 pub mod TableLaws

@@ -1,5 +1,5 @@
 -- What a search that ran to its end says of every place, table by table: its test holds there. Assumes nothing.
-use Rattle.std.specs.Prelude.{◌≡◌, ℕ, zero, suc, ◌+◌, ◌-◌, ◌*◌, ◌<◌, ◌≤◌, Bool, true, false, ◌&&◌, ◌||◌, T, eqb, ltb, leb, ◌⊎◌, List, [], ◌∷◌, length, take}
+use Rattle.std.specs.Prelude.{◌≡◌, ℕ, zero, suc, ◌+◌, ◌-◌, ◌*◌, ◌<◌, ◌≤◌, Bool, true, false, ◌&&◌, ◌||◌, T, eqb, ltb, leb, ◌⊎◌, List, [], ◌∷◌, length, take, None}
 use Prim.Native.Nat.{zero-le}
 use mathlib.Core.Bool.{false≢true}
 use mathlib.Core.Logic.{inl, inr, ⊎_elim}
@@ -14,11 +14,12 @@ use Rattle.graph.specs.Sets.{elem, Inc, Uniq}
 use Rattle.graph.specs.Links.{rows_in}
 use Rattle.graph.specs.Order.{Permutes}
 use Rattle.graph.proofs.SetLaws.{elem-cases}
-use Rattle.tables.specs.Search.{first}
+use Rattle.tables.specs.Search.{fault}
 use Rattle.tables.specs.Verdict.{at, dim_ok, rises_at, start_ok, row_ok, row_fits, order_ok, order_fits, perm_ok, late_ok, parent_ok, past_diagonal}
-use Rattle.tables.specs.Sound.{Sizes, Ordered, Columns}
+use Rattle.tables.specs.Sound.{Sizes, Ordered, Columns, Measured}
 use Rattle.tables.proofs.Bools.{and_left, and_right}
-use Rattle.tables.proofs.SearchLaws.{lt-or-ge, first-none}
+use Rattle.tables.proofs.SearchLaws.{lt-or-ge}
+use Rattle.tables.proofs.FaultLaws.{fault-clear}
 use Rattle.tables.proofs.ColumnLaws.{column-is, in_some}
 use Rattle.tables.proofs.MarkLaws.{perm-parts, perm-fresh, elem-before}
 
@@ -53,12 +54,12 @@ uniq_of (x ∷ l) h = (apart, uniq_of l (λ i k a b e. h (suc i) (suc k) (omega 
 
 -- ---- 2
 
-pub sizes-of : (dims : List ℕ) → length dims ≤ first (dim_ok dims) 0 (length dims) → Sizes dims
+pub sizes-of : (dims : List ℕ) → None ≡ fault (dim_ok dims) 0 (length dims) → Sizes dims
 unfolding dim_ok
 sizes-of dims h = record { positive = λ k l. leb-true _ _ (and_left (leb 1 (at dims k)) _ (ok k l)); small = small }
   where
     ok : (k : ℕ) → k < length dims → dim_ok dims k ≡ true
-    ok k l = first-none (dim_ok dims) 0 (length dims) h k zero-le l
+    ok k l = fault-clear (dim_ok dims) 0 (length dims) h k zero-le l
 
     small : (k : ℕ) → at dims k ≤ 16
     small k =
@@ -66,13 +67,13 @@ sizes-of dims h = record { positive = λ k l. leb-true _ _ (and_left (leb 1 (at 
 
 -- ---- 3
 
-pub ordered_of : (starts : List ℕ) (n m : ℕ) → n + 2 ≤ first (start_ok starts n m) 0 (n + 2) → Ordered starts n m
+pub ordered_of : (starts : List ℕ) (n m : ℕ) → None ≡ fault (start_ok starts n m) 0 (n + 2) → Ordered starts n m
 unfolding start_ok rises_at
 ordered_of starts n m h =
     record { entries = omega (arith, (parts n (omega arith)).0, no_more); begins = begins; rising = rising; ends = ends; inside = inside }
   where
     ok : (k : ℕ) → k < n + 2 → start_ok starts n m k ≡ true
-    ok k l = first-none (start_ok starts n m) 0 (n + 2) h k zero-le l
+    ok k l = fault-clear (start_ok starts n m) 0 (n + 2) h k zero-le l
 
     parts : (k : ℕ) → k ≤ n → (k < length starts) × ((rises_at starts k ≡ true) × ((ltb k n || eqb (at starts k) m) ≡ true))
     parts k l =
@@ -106,22 +107,22 @@ ordered_of starts n m h =
 -- ---- 5 and 6
 
 module _ (least : ℕ → ℕ) (n : ℕ) (starts rows : List ℕ) (o : Ordered starts n (length rows)) where
-  ranged : length rows ≤ first (row_fits least starts rows n) 0 (length rows) → (j p : ℕ) → j < n → at starts j ≤ p → p < at starts (j + 1) → (least j ≤ at rows p) × (at rows p < n)
+  ranged : None ≡ fault (row_fits least starts rows n) 0 (length rows) → (j p : ℕ) → j < n → at starts j ≤ p → p < at starts (j + 1) → (least j ≤ at rows p) × (at rows p < n)
   unfolding row_ok
   ranged h j p l lo hi =
-      let e : row_fits least starts rows n p ≡ true = first-none (row_fits least starts rows n) 0 (length rows) h p zero-le (omega (arith, o.inside (j + 1) (omega arith))) in
+      let e : row_fits least starts rows n p ≡ true = fault-clear (row_fits least starts rows n) 0 (length rows) h p zero-le (omega (arith, o.inside (j + 1) (omega arith))) in
       let f : row_ok rows n (least j) p ≡ true = rw (column-is o j p l lo hi) at e in
       (leb-true _ _ (and_left (leb (least j) (at rows p)) _ f), ltb-true _ _ (and_right (leb (least j) (at rows p)) _ f))
 
   -- one row after another in a column
-  next : length rows ≤ first (order_fits starts rows n) 0 (length rows) → (j p : ℕ) → j < n → at starts j < p → p < at starts (j + 1) → at rows (p - 1) < at rows p
+  next : None ≡ fault (order_fits starts rows n) 0 (length rows) → (j p : ℕ) → j < n → at starts j < p → p < at starts (j + 1) → at rows (p - 1) < at rows p
   unfolding order_ok
   next h j p l lo hi =
-      let e : order_fits starts rows n p ≡ true = first-none (order_fits starts rows n) 0 (length rows) h p zero-le (omega (arith, o.inside (j + 1) (omega arith))) in
+      let e : order_fits starts rows n p ≡ true = fault-clear (order_fits starts rows n) 0 (length rows) h p zero-le (omega (arith, o.inside (j + 1) (omega arith))) in
       let f : order_ok rows (at starts j) p ≡ true = rw (column-is o j p l (omega arith) hi) at e in
       ltb-true _ _ (rw (lt-leb p (at starts j) lo) at f)
 
-  module _ (h5 : length rows ≤ first (row_fits least starts rows n) 0 (length rows)) (h6 : length rows ≤ first (order_fits starts rows n) 0 (length rows)) where
+  module _ (h5 : None ≡ fault (row_fits least starts rows n) 0 (length rows)) (h6 : None ≡ fault (order_fits starts rows n) 0 (length rows)) where
     rise-by : (j d p q : ℕ) → j < n → p + suc d ≡ q → at starts j ≤ p → q < at starts (j + 1) → at rows p < at rows q
     rise-by j zero p q l e lo hi =
         let back : q - 1 ≡ p = omega arith in
@@ -211,14 +212,25 @@ module _ {n : ℕ} {starts rows : List ℕ} (c : Columns past_diagonal n starts 
   pub stored-limit : n ≤ 4096 → length rows ≤ 8386560
   stored-limit h = omega (arith, stored-half, mul-le-mul_left n h)
 
+-- ---- what the sum of areas reads
+
+module _ (least : ℕ → ℕ) {dims starts rows : List ℕ} where
+  pub measured_of : length dims ≤ 4096 → None ≡ fault (dim_ok dims) 0 (length dims) → None ≡ fault (start_ok starts (length dims) (length rows)) 0 (length dims + 2) →
+      None ≡ fault (row_fits least starts rows (length dims)) 0 (length rows) → None ≡ fault (order_fits starts rows (length dims)) 0 (length rows) →
+      Measured dims starts rows
+  measured_of h1 h2 h3 h5 h6 =
+      let o : Ordered starts (length dims) (length rows) = ordered_of _ _ _ h3 in
+      let c : Columns least (length dims) starts rows = columns_of least _ _ _ o h5 h6 in
+      record { sizes = sizes-of dims h2; ordered = o; below = c.below; few = stored-few c h1 }
+
 -- ---- 8 and 9
 
-pub permutes-of : (perm : List ℕ) (n : ℕ) → n + 1 ≤ first (perm_ok perm n) 0 (n + 1) → Permutes n perm
+pub permutes-of : (perm : List ℕ) (n : ℕ) → None ≡ fault (perm_ok perm n) 0 (n + 1) → Permutes n perm
 unfolding perm_ok
 permutes-of perm n h = record { entries = entries; below = below; once = uniq_of perm apart }
   where
     ok : (k : ℕ) → k < n + 1 → perm_ok perm n k ≡ true
-    ok k l = first-none (perm_ok perm n) 0 (n + 1) h k zero-le l
+    ok k l = fault-clear (perm_ok perm n) 0 (n + 1) h k zero-le l
 
     no_more : length perm ≤ n
     no_more = leb-true _ _ (rw (le-ltb n n (omega arith)) at (ok n (omega arith)))
@@ -241,12 +253,12 @@ permutes-of perm n h = record { entries = entries; below = below; once = uniq_of
         let l : k < n = omega (arith, entries) in
         false≢true (rw (elem-before perm k i a b e) at (perm-fresh perm n k l (ok k (omega arith))))
 
-pub flags_of : (late : List ℕ) (n : ℕ) → n + 1 ≤ first (late_ok late n) 0 (n + 1) → (length late ≡ n) × ((k : ℕ) → k < n → at late k ≤ 1)
+pub flags_of : (late : List ℕ) (n : ℕ) → None ≡ fault (late_ok late n) 0 (n + 1) → (length late ≡ n) × ((k : ℕ) → k < n → at late k ≤ 1)
 unfolding late_ok
 flags_of late n h = (omega (arith, long n (omega arith), no_more), λ k l. leb-true _ _ (and_right (ltb k (length late)) _ (parts k l)))
   where
     ok : (k : ℕ) → k < n + 1 → late_ok late n k ≡ true
-    ok k l = first-none (late_ok late n) 0 (n + 1) h k zero-le l
+    ok k l = fault-clear (late_ok late n) 0 (n + 1) h k zero-le l
 
     parts : (k : ℕ) → k < n → (ltb k (length late) && leb (at late k) 1) ≡ true
     parts k l = rw (lt-ltb k n l) at (ok k (omega arith))
@@ -260,9 +272,9 @@ flags_of late n h = (omega (arith, long n (omega arith), no_more), λ k l. leb-t
 
 -- ---- the parents
 
-pub parents-of : (above : List ℕ) → length above ≤ first (parent_ok above) 0 (length above) → (k : ℕ) → k < length above → (at above k ≡ 4294967295) ⊎ ((k < at above k) × (at above k < length above))
+pub parents-of : (above : List ℕ) → None ≡ fault (parent_ok above) 0 (length above) → (k : ℕ) → k < length above → (at above k ≡ 4294967295) ⊎ ((k < at above k) × (at above k < length above))
 unfolding parent_ok
-parents-of above h k l = by-test (eqb (at above k) 4294967295) refl (first-none (parent_ok above) 0 (length above) h k zero-le l)
+parents-of above h k l = by-test (eqb (at above k) 4294967295) refl (fault-clear (parent_ok above) 0 (length above) h k zero-le l)
   where
     by-test : (b : Bool) → eqb (at above k) 4294967295 ≡ b → (b || ltb k (at above k) && ltb (at above k) (length above)) ≡ true → (at above k ≡ 4294967295) ⊎ ((k < at above k) × (at above k < length above))
     by-test true e t = inl (eqb-true _ _ e)

@@ -1,8 +1,8 @@
 // The searches that the checks of tables are made of, those over the row table apart. How one is made:
 //   NAME_ok      one place of one table: its test in specs/Verdict.antt
-//   first_NAME   the loop over the places: the first at which the test fails, and the end where there is none
-ghost use Rattle.std.specs.Prelude.{◌≡◌, ℕ, ◌+◌, ◌<◌, ◌≤◌, length, take};
-ghost use Rattle.tables.specs.Search.{first};
+//   first_NAME   the first place at which the test fails, if there is one
+ghost use Rattle.std.specs.Prelude.{◌≡◌, ℕ, Bool, ◌+◌, ◌<◌, ◌≤◌, length, take};
+ghost use Rattle.tables.specs.Search.{fault};
 ghost use Rattle.tables.specs.Verdict.{dim_ok, rises_at, start_ok, perm_ok, late_ok, parent_ok};
 ghost use Rattle.tables.specs.Sound.{Marked};
 
@@ -17,6 +17,7 @@ pub fn wide(x: u32) -> usize
 }
 
 // The dimension of block k is 1 to 16.
+#[tactic(auto, unfolding(crate::specs::Verdict::dim_ok))]
 pub fn dim_ok(dims: &[u32], k: usize) -> bool
     requires { k < length dims.now }
     ensures { result ≡ dim_ok dims.now k }
@@ -25,21 +26,28 @@ pub fn dim_ok(dims: &[u32], k: usize) -> bool
     1 <= d && d <= 16
 }
 
-// 2: the first block whose dimension is 0 or above 16.
-pub fn first_dim(dims: &[u32]) -> usize
-    ensures { result ≡ first (dim_ok dims.now) 0 (length dims.now) }
+// The first place in lo..hi at which a test fails.
+pub fn first_fault<P: Fn(usize) -> bool>(lo: usize, hi: usize, passes: P) -> Option<usize>
+    requires { (k : ℕ) → lo ≤ k → k < hi → P.pre passes k }
+    ensures { (test : ℕ → Bool) → ((k : ℕ) (b : Bool) → lo ≤ k → k < hi → P.post passes k b → b ≡ test k) → result ≡ fault test lo hi }
 {
-    let mut i: usize = 0;
-    while i < dims.len() {
-        if !dim_ok(dims, i) {
-            return i;
+    for k in lo..hi {
+        if !passes(k) {
+            return Some(k);
         }
-        i += 1;
     }
-    i
+    None
+}
+
+// 2: the first block whose dimension is 0 or above 16.
+pub fn first_dim(dims: &[u32]) -> Option<usize>
+    ensures { result ≡ fault (dim_ok dims.now) 0 (length dims.now) }
+{
+    first_fault(0, dims.len(), |k| dim_ok(dims, k))
 }
 
 // The first column start is 0, and no other is below the one before it.
+#[tactic(auto, unfolding(crate::specs::Verdict::rises_at))]
 pub fn rises(starts: &[u32], k: usize) -> bool
     requires { k < length starts.now }
     ensures { result ≡ rises_at starts.now k }
@@ -53,6 +61,7 @@ pub fn rises(starts: &[u32], k: usize) -> bool
 }
 
 // The starts of n columns over m rows are right at place k.
+#[tactic(auto, unfolding(crate::specs::Verdict::start_ok))]
 pub fn start_ok(starts: &[u32], n: usize, m: usize, k: usize) -> bool
     ensures { result ≡ start_ok starts.now n m k }
 {
@@ -72,21 +81,15 @@ pub fn start_ok(starts: &[u32], n: usize, m: usize, k: usize) -> bool
 }
 
 // 3: the first wrong place of the starts of n columns over m rows.
-pub fn first_start(starts: &[u32], n: usize, m: usize) -> usize
+pub fn first_start(starts: &[u32], n: usize, m: usize) -> Option<usize>
     requires { n ≤ 4096 }
-    ensures { result ≡ first (start_ok starts.now n m) 0 (n + 2) }
+    ensures { result ≡ fault (start_ok starts.now n m) 0 (n + 2) }
 {
-    let mut i: usize = 0;
-    while i < n + 2 {
-        if !start_ok(starts, n, m, i) {
-            return i;
-        }
-        i += 1;
-    }
-    i
+    first_fault(0, n + 2, |k| start_ok(starts, n, m, k))
 }
 
 // The permutation of n blocks is right at place k; `seen` marks the entries before.
+#[tactic(auto, using(crate::proofs::MarkLaws::unmarked), unfolding(crate::specs::Verdict::perm_ok))]
 pub fn perm_ok(perm: &[u32], n: usize, k: usize, seen: &[u8; 4096]) -> bool
     requires { (n ≤ 4096) × Marked seen.now (take k perm.now) }
     ensures { result ≡ perm_ok perm.now n k }
@@ -106,27 +109,26 @@ pub fn perm_ok(perm: &[u32], n: usize, k: usize, seen: &[u8; 4096]) -> bool
 
 // 8: the first place of the permutation that is wrong. The marks are a local array: a refusal leaves every lent buffer as it
 // was, and a lent one could be too short, which is a later number.
-pub fn first_perm(perm: &[u32], n: usize) -> usize
+pub fn first_perm(perm: &[u32], n: usize) -> Option<usize>
     requires { n ≤ 4096 }
-    ensures { result ≡ first (perm_ok perm.now n) 0 (n + 1) }
+    ensures { result ≡ fault (perm_ok perm.now n) 0 (n + 1) }
 {
     let mut seen = [0u8; 4096];
-    let mut i: usize = 0;
-    while i < n {
+    for i in 0..n {
         if !perm_ok(perm, n, i, &seen) {
-            return i;
+            return Some(i);
         }
         let v = wide(perm[i]);
         seen[v] = 1;
-        i += 1;
     }
-    if !perm_ok(perm, n, i, &seen) {
-        return i;
+    if perm_ok(perm, n, n, &seen) {
+        return None;
     }
-    i + 1
+    Some(n)
 }
 
 // The late flags of n blocks are right at place k.
+#[tactic(auto, unfolding(crate::specs::Verdict::late_ok))]
 pub fn late_ok(late: &[u32], n: usize, k: usize) -> bool
     ensures { result ≡ late_ok late.now n k }
 {
@@ -140,21 +142,15 @@ pub fn late_ok(late: &[u32], n: usize, k: usize) -> bool
 }
 
 // 9: the first place of the late flags that is wrong.
-pub fn first_late(late: &[u32], n: usize) -> usize
+pub fn first_late(late: &[u32], n: usize) -> Option<usize>
     requires { n ≤ 4096 }
-    ensures { result ≡ first (late_ok late.now n) 0 (n + 1) }
+    ensures { result ≡ fault (late_ok late.now n) 0 (n + 1) }
 {
-    let mut i: usize = 0;
-    while i < n + 1 {
-        if !late_ok(late, n, i) {
-            return i;
-        }
-        i += 1;
-    }
-    i
+    first_fault(0, n + 1, |k| late_ok(late, n, k))
 }
 
 // The parent of block k is none or a greater block.
+#[tactic(auto, unfolding(crate::specs::Verdict::parent_ok))]
 pub fn parent_ok(parents: &[u32], k: usize) -> bool
     requires { k < length parents.now }
     ensures { result ≡ parent_ok parents.now k }
@@ -168,15 +164,8 @@ pub fn parent_ok(parents: &[u32], k: usize) -> bool
 }
 
 // 5: the first block whose parent is neither none nor a greater block.
-pub fn first_parent(parents: &[u32]) -> usize
-    ensures { result ≡ first (parent_ok parents.now) 0 (length parents.now) }
+pub fn first_parent(parents: &[u32]) -> Option<usize>
+    ensures { result ≡ fault (parent_ok parents.now) 0 (length parents.now) }
 {
-    let mut i: usize = 0;
-    while i < parents.len() {
-        if !parent_ok(parents, i) {
-            return i;
-        }
-        i += 1;
-    }
-    i
+    first_fault(0, parents.len(), |k| parent_ok(parents, k))
 }

@@ -7,7 +7,7 @@ use lib.Ieee.{Float, nan}
 use lib.ListN.{length-set, length-append, length-map, get_or-append, get_or-map}
 use lib.Seq.{get_or-append-add}
 use Rattle.graph.specs.Sets.{from, gather}
-use Rattle.buckets.proofs.Lists.{get_d_any}
+use Rattle.buckets.proofs.Lists.{get_or_any}
 use Rattle.order.proofs.Laws.{length_from, get_or-from}
 use Rattle.scalar.specs.Block.{at, put}
 use Rattle.machine.specs.Machine.{product_entry, mat_product}
@@ -25,7 +25,7 @@ module _ (h : ℕ) (e : ℕ → ℕ → Float) where
   col-at : (r c : ℕ) → r < h → get_or (col c) r nan ≡ e r c
   col-at r c k =
       let l = length-col c in
-      get_d_any (col c) r nan (e 0 c) (omega arith) ∙ get_or-map {A = ℕ} {B = Float} (λ r. e r c) (from 0 h) r 0
+      get_or_any (col c) r nan (e 0 c) (omega arith) ∙ get_or-map {A = ℕ} {B = Float} (λ r. e r c) (from 0 h) r 0
       ∙ ap (λ (m : ℕ). e m c) (get_or-from 0 h r k ∙ omega arith)
 
   cols-length : (a n : ℕ) → length (gather {A = Float} col (from a n)) ≡ n * h

@@ -2,46 +2,30 @@
 // the lengths of starts, rows, parents and the two lent buffers. A call has six words too: 1 for a tree or 2 for a walk, the
 // blocks or the block, the mark, and what is told; then the lent buffers afterwards.
 use crate::told::{Told, of_tree, of_walk};
-use word_list::room::{BLOCKS, blocks, held};
-use word_list::tally::sum;
-use word_list::words;
-use word_list::words::{listed, size};
+use word_list::cases::{BadList, Case};
+use word_list::entry::Entry;
+use word_list::lent::{listed, table};
+use word_list::room::{BLOCKS, held};
+use word_list::tally::Count;
 
 const TREE: u32 = 1;
 
-// What a turn at the list comes to.
-#[derive(Clone, Copy)]
-pub enum Turn {
-    // The word that ends the list.
-    End,
-    // The input ends early.
-    Bad,
-    // So many calls, of which so many come out as listed.
-    Called {
-        kind: usize,
-        count: usize,
-        same: usize,
-    },
-}
-
-// Reads the next turn and judges its calls.
-pub fn next() -> Turn {
-    let first = words::next();
-    if !first.is {
-        return Turn::Bad;
-    }
-    let kind = size(first.value);
+// Reads the next turn and judges its calls; none is the word that ends the list.
+pub fn next() -> Result<Option<Case>, BadList> {
+    let Some(first) = u32::next() else {
+        return Err(BadList {});
+    };
+    let kind = first as usize;
     if kind == 0 {
-        return Turn::End;
+        return Ok(None);
     }
-    let mut h = [0u32; 6];
-    words::read(&mut h, 6);
-    let same = called(&h);
-    Turn::Called {
+    let h: [u32; 6] = table(6);
+    let right = called(&h);
+    let cases = h[0] as usize;
+    Ok(Some(Case {
         kind,
-        count: size(h[0]),
-        same,
-    }
+        count: Count { cases, right },
+    }))
 }
 
 // The tables and buffers, then the calls: how many come out as listed.
@@ -51,11 +35,11 @@ fn called(h: &[u32; 6]) -> usize {
     let k3 = held(h[3], BLOCKS);
     let k4 = held(h[4], BLOCKS);
     let k5 = held(h[5], BLOCKS);
-    let starts = blocks(k1);
-    let rows = blocks(k2);
-    let parents = blocks(k3);
-    let mut a = blocks(k4);
-    let mut b = blocks(k5);
+    let starts: [u32; 4112] = table(k1);
+    let rows: [u32; 4112] = table(k2);
+    let parents: [u32; 4112] = table(k3);
+    let mut a: [u32; 4112] = table(k4);
+    let mut b: [u32; 4112] = table(k5);
     calls(
         h[0],
         &starts[..k1],
@@ -76,9 +60,9 @@ fn calls(
     b: &mut [u32],
 ) -> usize {
     let mut same: usize = 0;
-    for k in 0..count {
+    for _ in 0..count {
         if one(starts, rows, parents, a, b) {
-            same = sum(same, 1);
+            same = same.saturating_add(1);
         }
     }
     same
@@ -86,18 +70,11 @@ fn calls(
 
 // One call: whether it tells what the list says, and leaves the buffers as the list has them.
 fn one(starts: &[u32], rows: &[u32], parents: &[u32], a: &mut [u32], b: &mut [u32]) -> bool {
-    let mut w = [0u32; 6];
-    words::read(&mut w, 6);
+    let w: [u32; 6] = table(6);
     let told = call(&w, starts, rows, parents, a, b);
     let first = listed(a, a.len());
     let second = listed(b, b.len());
-    if !first {
-        return false;
-    }
-    if !second {
-        return false;
-    }
-    matches(&w, told)
+    first && second && matches(&w, told)
 }
 
 fn call(
@@ -108,7 +85,7 @@ fn call(
     a: &mut [u32],
     b: &mut [u32],
 ) -> Told {
-    let at = size(w[1]);
+    let at = w[1] as usize;
     if w[0] == TREE {
         return of_tree(elimination_tree::new(at, starts, rows, a, b));
     }
@@ -117,11 +94,5 @@ fn call(
 
 // Whether the words of a call say so.
 fn matches(w: &[u32; 6], t: Told) -> bool {
-    if size(w[3]) != t.number {
-        return false;
-    }
-    if size(w[4]) != t.first {
-        return false;
-    }
-    size(w[5]) == t.second
+    w[3] as usize == t.number && w[4] as usize == t.first && w[5] as usize == t.second
 }

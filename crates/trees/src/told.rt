@@ -1,7 +1,7 @@
 // What a call tells.
-use elimination_tree::Grown;
-use reach::Reached;
-use word_list::words::size;
+use elimination_tree::TreeError;
+use reach::ReachError;
+use reach::cores::Mark;
 
 #[derive(Clone, Copy)]
 pub struct Told {
@@ -13,27 +13,27 @@ pub struct Told {
     pub second: usize,
 }
 
-pub fn of_tree(g: Grown) -> Told {
+pub fn of_tree(g: Result<(), TreeError>) -> Told {
     match g {
-        Grown::Accepted(_) => tells(0, 0, 0),
-        Grown::Blocks => tells(1, 0, 0),
-        Grown::Starts { place } => tells(3, place, 0),
-        Grown::Row { place } => tells(5, place, 0),
-        Grown::Order { place } => tells(6, place, 0),
-        Grown::Short { which, need } => tells(11, which, need),
+        Ok(_) => tells(0, 0, 0),
+        Err(TreeError::Blocks) => tells(1, 0, 0),
+        Err(TreeError::Starts { place }) => tells(3, place, 0),
+        Err(TreeError::Row { place }) => tells(5, place, 0),
+        Err(TreeError::Order { place }) => tells(6, place, 0),
+        Err(TreeError::Short { which, need }) => tells(11, which, need),
     }
 }
 
-pub fn of_walk(r: Reached) -> Told {
+pub fn of_walk(r: Result<Mark, ReachError>) -> Told {
     match r {
-        Reached::Accepted(m) => tells(0, size(m.mark), m.top),
-        Reached::Blocks => tells(1, 0, 0),
-        Reached::Starts { place } => tells(3, place, 0),
-        Reached::Row { place } => tells(5, place, 0),
-        Reached::Parent { place } => tells(5, place, 1),
-        Reached::Order { place } => tells(6, place, 0),
-        Reached::Short { which, need } => tells(11, which, need),
-        Reached::Past { place } => tells(12, place, 0),
+        Ok(m) => tells(0, m.mark as usize, m.top),
+        Err(ReachError::Blocks) => tells(1, 0, 0),
+        Err(ReachError::Starts { place }) => tells(3, place, 0),
+        Err(ReachError::Row { place }) => tells(5, place, 0),
+        Err(ReachError::Parent { place }) => tells(5, place, 1),
+        Err(ReachError::Order { place }) => tells(6, place, 0),
+        Err(ReachError::Short { which, need }) => tells(11, which, need),
+        Err(ReachError::Past { place }) => tells(12, place, 0),
     }
 }
 

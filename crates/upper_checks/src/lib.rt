@@ -3,17 +3,16 @@
 
 ghost use Rattle.std.specs.Prelude.{◌≡◌};
 ghost use Rattle.tables.specs.Verdict.{upper_verdict, tree_verdict};
-ghost use Rattle.upper_checks.specs.Outcome.{told_upper, told_tree};
+ghost use Rattle.upper_checks.specs.Outcome.{told_upper, told_tree, told_upper_error, told_tree_error};
 
 use checks::MAX_BLOCKS;
 use columns::cores::{Least, first_fall, first_row};
-use refusal::Worked;
+use refusal::Refusal;
 use tables::cores::{first_parent, first_start};
 
-// The outcome of a check of an upper pattern.
-#[derive(Clone, Copy)]
-pub enum Upper {
-    Accepted(Worked),
+// The refusals of a check of an upper pattern.
+#[derive(Clone, Copy, Debug, PartialEq, Eq)]
+pub enum UpperError {
     // 1
     Blocks,
     // 3: the entry of the column starts.
@@ -24,10 +23,22 @@ pub enum Upper {
     Order { place: usize },
 }
 
-// The outcome of a check of an upper pattern with the parents of its blocks; places as above.
-#[derive(Clone, Copy)]
-pub enum Tree {
-    Accepted(Worked),
+impl Refusal for UpperError {
+    ghost told = { told_upper_error };
+
+    fn number(&self) -> u32 {
+        match self {
+            UpperError::Blocks => 1,
+            UpperError::Starts { place: _ } => 3,
+            UpperError::Row { place: _ } => 5,
+            UpperError::Order { place: _ } => 6,
+        }
+    }
+}
+
+// The refusals of a check of an upper pattern with the parents of its blocks; places as above.
+#[derive(Clone, Copy, Debug, PartialEq, Eq)]
+pub enum TreeError {
     // 1
     Blocks,
     // 3
@@ -40,53 +51,60 @@ pub enum Tree {
     Order { place: usize },
 }
 
+impl Refusal for TreeError {
+    ghost told = { told_tree_error };
+
+    fn number(&self) -> u32 {
+        match self {
+            TreeError::Blocks => 1,
+            TreeError::Starts { place: _ } => 3,
+            TreeError::Row { place: _ } => 5,
+            TreeError::Parent { place: _ } => 5,
+            TreeError::Order { place: _ } => 6,
+        }
+    }
+}
+
 // An upper pattern of n blocks, whose columns may store any block's row.
-pub fn check_upper(n: usize, starts: &[u32], rows: &[u32]) -> Upper
+#[tactic(auto, using(crate::proofs::UpperLaws::upper_laws))]
+pub fn check_upper(n: usize, starts: &[u32], rows: &[u32]) -> Result<(), UpperError>
     ensures { told_upper result ≡ upper_verdict n starts.now rows.now }
 {
     if n > MAX_BLOCKS {
-        return Upper::Blocks;
+        return Err(UpperError::Blocks);
     }
-    let m = rows.len();
-    let k3 = first_start(starts, n, m);
-    if k3 < n + 2 {
-        return Upper::Starts { place: k3 };
+    if let Some(place) = first_start(starts, n, rows.len()) {
+        return Err(UpperError::Starts { place });
     }
-    let k5 = first_row(starts, rows, n, Least::Any);
-    if k5 < m {
-        return Upper::Row { place: k5 };
+    if let Some(place) = first_row(starts, rows, n, Least::Any) {
+        return Err(UpperError::Row { place });
     }
-    let k6 = first_fall(starts, rows, n);
-    if k6 < m {
-        return Upper::Order { place: k6 };
+    if let Some(place) = first_fall(starts, rows, n) {
+        return Err(UpperError::Order { place });
     }
-    Upper::Accepted(Worked {})
+    Ok(())
 }
 
 // An upper pattern of as many blocks as there are parents, each of which is none or a greater block.
-pub fn check_tree(starts: &[u32], rows: &[u32], parents: &[u32]) -> Tree
+#[tactic(auto, using(crate::proofs::TreeLaws::tree_laws))]
+pub fn check_tree(starts: &[u32], rows: &[u32], parents: &[u32]) -> Result<(), TreeError>
     ensures { told_tree result ≡ tree_verdict starts.now rows.now parents.now }
 {
     let n = parents.len();
     if n > MAX_BLOCKS {
-        return Tree::Blocks;
+        return Err(TreeError::Blocks);
     }
-    let m = rows.len();
-    let k3 = first_start(starts, n, m);
-    if k3 < n + 2 {
-        return Tree::Starts { place: k3 };
+    if let Some(place) = first_start(starts, n, rows.len()) {
+        return Err(TreeError::Starts { place });
     }
-    let k5 = first_row(starts, rows, n, Least::Any);
-    if k5 < m {
-        return Tree::Row { place: k5 };
+    if let Some(place) = first_row(starts, rows, n, Least::Any) {
+        return Err(TreeError::Row { place });
     }
-    let p5 = first_parent(parents);
-    if p5 < n {
-        return Tree::Parent { place: p5 };
+    if let Some(place) = first_parent(parents) {
+        return Err(TreeError::Parent { place });
     }
-    let k6 = first_fall(starts, rows, n);
-    if k6 < m {
-        return Tree::Order { place: k6 };
+    if let Some(place) = first_fall(starts, rows, n) {
+        return Err(TreeError::Order { place });
     }
-    Tree::Accepted(Worked {})
+    Ok(())
 }

@@ -10,10 +10,13 @@ ghost use Rattle.block_diag_ldlt.specs.Block.{told as told_block};
 ghost use Rattle.replay.specs.Words.{word_at, word_float};
 ghost use Rattle.vector_answers.specs.Answer.{spelled, Listed};
 
+use block_diag_ldlt::DecomposeError;
+use dense_ldlt::LdltError;
 use dense_pivots::{Definiteness, LdltResult};
-use refusal::Shaped;
+use refusal::ShapeError;
 use replay::{count, float, on, same};
 
+// Kept: the list has a word for each count, and `matches` compares those words; an `Option` or a list would be counted for it.
 #[derive(Clone, Copy)]
 pub struct Told {
     // The refusal's number, 0 for none.
@@ -69,38 +72,38 @@ fn full(number: usize, first: usize, second: usize, float: f64) -> Told
     }
 }
 
-pub fn of_shaped(s: Shaped) -> Told
+pub fn of_shaped(s: Result<(), ShapeError>) -> Told
     ensures { spelled result ≡ told s }
 {
     match s {
-        Shaped::Accepted(_) => bare(0),
-        Shaped::Dimension { place } => placed(2, place),
-        Shaped::Mismatch { place } => placed(12, place),
+        Ok(_) => bare(0),
+        Err(ShapeError::Dimension { place }) => placed(2, place),
+        Err(ShapeError::Mismatch { place }) => placed(12, place),
     }
 }
 
-pub fn of_dense(r: dense_ldlt::Decomposed) -> Told
+pub fn of_dense(r: Result<LdltResult, LdltError>) -> Told
     ensures { spelled result ≡ told_dense r }
 {
     match r {
-        dense_ldlt::Decomposed::Accepted(k) => of_result(k),
-        dense_ldlt::Decomposed::Dimension { place } => placed(2, place),
-        dense_ldlt::Decomposed::Tolerance => bare(10),
-        dense_ldlt::Decomposed::Mismatch { place } => placed(12, place),
-        dense_ldlt::Decomposed::NotFinite { place, pivot } => full(13, 0, place, pivot),
+        Ok(k) => of_result(k),
+        Err(LdltError::Dimension { place }) => placed(2, place),
+        Err(LdltError::Tolerance) => bare(10),
+        Err(LdltError::Mismatch { place }) => placed(12, place),
+        Err(LdltError::NotFinite { place, pivot }) => full(13, 0, place, pivot),
     }
 }
 
-pub fn of_block(r: block_diag_ldlt::Decomposed) -> Told
+pub fn of_block(r: Result<LdltResult, DecomposeError>) -> Told
     ensures { spelled result ≡ told_block r }
 {
     match r {
-        block_diag_ldlt::Decomposed::Accepted(k) => of_result(k),
-        block_diag_ldlt::Decomposed::Dimension { place } => placed(2, place),
-        block_diag_ldlt::Decomposed::Tolerance => bare(10),
-        block_diag_ldlt::Decomposed::Mismatch { place } => placed(12, place),
-        block_diag_ldlt::Decomposed::NotFinite { place, pivot } => full(13, 0, place, pivot),
-        block_diag_ldlt::Decomposed::Poor { condition } => Told {
+        Ok(k) => of_result(k),
+        Err(DecomposeError::Dimension { place }) => placed(2, place),
+        Err(DecomposeError::Tolerance) => bare(10),
+        Err(DecomposeError::Mismatch { place }) => placed(12, place),
+        Err(DecomposeError::NotFinite { place, pivot }) => full(13, 0, place, pivot),
+        Err(DecomposeError::Poor { condition }) => Told {
             number: 14,
             indices: 1,
             first: 0,

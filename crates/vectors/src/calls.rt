@@ -1,5 +1,5 @@
 // The library's functions by their ops. The sizes go in as the list gives them.
-use refusal::Shaped;
+use refusal::ShapeError;
 use replay::{count, float};
 use vector_answers::{Told, of_block, of_dense, of_shaped};
 
@@ -35,7 +35,7 @@ pub fn call(h: Head, a: &mut [f64], b: &mut [f64], c: &mut [f64], d: &mut [f64])
 }
 
 // 1 to 9
-fn two(h: Head, a: &[f64], b: &mut [f64]) -> Shaped {
+fn two(h: Head, a: &[f64], b: &mut [f64]) -> Result<(), ShapeError> {
     if h.op < 7 {
         return from_left(h.op, h.p, h.q, a, b);
     }
@@ -57,7 +57,7 @@ fn three(h: Head, a: &mut [f64], b: &mut [f64], c: &mut [f64]) -> Told {
 }
 
 // 1 to 6
-fn from_left(op: usize, p: usize, q: usize, a: &[f64], b: &mut [f64]) -> Shaped {
+fn from_left(op: usize, p: usize, q: usize, a: &[f64], b: &mut [f64]) -> Result<(), ShapeError> {
     match op {
         1 => kernel_lower::lower_solve_inplace(p, a, b),
         2 => kernel_lower::lower_matsolve_inplace(p, q, a, b),
@@ -69,7 +69,7 @@ fn from_left(op: usize, p: usize, q: usize, a: &[f64], b: &mut [f64]) -> Shaped 
 }
 
 // 7 to 9
-fn from_right(op: usize, p: usize, q: usize, a: &[f64], b: &mut [f64]) -> Shaped {
+fn from_right(op: usize, p: usize, q: usize, a: &[f64], b: &mut [f64]) -> Result<(), ShapeError> {
     match op {
         7 => kernel_right::lower_right_solve_inplace(p, q, a, b),
         8 => kernel_right_transpose::lower_transpose_rightsolve_inplace(p, q, a, b),
@@ -78,7 +78,7 @@ fn from_right(op: usize, p: usize, q: usize, a: &[f64], b: &mut [f64]) -> Shaped
 }
 
 // 10 and 11
-fn product(h: Head, a: &mut [f64], b: &[f64], c: &[f64], d: &[f64]) -> Shaped {
+fn product(h: Head, a: &mut [f64], b: &[f64], c: &[f64], d: &[f64]) -> Result<(), ShapeError> {
     if h.op == 10 {
         return kernel_product::sub_mat_diag_mat_t_inplace(h.p, h.q, h.r, a, b, c, d);
     }
@@ -86,7 +86,14 @@ fn product(h: Head, a: &mut [f64], b: &[f64], c: &[f64], d: &[f64]) -> Shaped {
 }
 
 // 12 and 13
-fn vector(op: usize, p: usize, q: usize, a: &mut [f64], b: &[f64], c: &[f64]) -> Shaped {
+fn vector(
+    op: usize,
+    p: usize,
+    q: usize,
+    a: &mut [f64],
+    b: &[f64],
+    c: &[f64],
+) -> Result<(), ShapeError> {
     match op {
         12 => kernel_vector::sub_mat_plus_vec_inplace(p, q, a, b, c),
         _ => kernel_vector_transpose::sub_mat_transpose_plus_vec_in_place(p, q, a, b, c),
@@ -94,7 +101,14 @@ fn vector(op: usize, p: usize, q: usize, a: &mut [f64], b: &[f64], c: &[f64]) ->
 }
 
 // 15 to 17, 19 and 20
-fn solve(op: usize, p: usize, q: usize, a: &[f64], b: &[f64], c: &mut [f64]) -> Shaped {
+fn solve(
+    op: usize,
+    p: usize,
+    q: usize,
+    a: &[f64],
+    b: &[f64],
+    c: &mut [f64],
+) -> Result<(), ShapeError> {
     match op {
         15 => dense_solve::ldlt_solve_inplace(p, a, b, c),
         16 => dense_solve::ldlt_matsolve_inplace(p, q, a, b, c),

@@ -4,54 +4,41 @@ ghost use Rattle.std.specs.Prelude.{◌≡◌, ◌≤◌, length};
 use crate::calls::{call, head_of};
 use replay::{count, fill, on, same_slice};
 use vector_answers::matches;
+use word_list::cases::{BadList, Case};
 
 const STDIN: i32 = 0;
 
 // No slice of the list is longer.
 const ROOM: usize = 512;
 
-// What a turn at the list comes to.
-#[derive(Clone, Copy)]
-pub enum Turn {
-    // The word that ends the list.
-    End,
-    // The input ends early, or a case does not fit.
-    Bad,
-    Right { op: usize },
-    Wrong { op: usize },
-}
-
-// Reads the next case and judges it.
-pub fn next() -> Turn {
+// Reads the next case and judges it; none is the word that ends the list. A list is bad where the input ends early or a case does not fit.
+pub fn next() -> Result<Option<Case>, BadList> {
     let mut head = [0u8; 8];
-    let got = io::read_full(STDIN, &mut head);
-    if got < 8 {
-        return Turn::Bad;
+    if io::read_full(STDIN, &mut head) < 8 {
+        return Err(BadList {});
     }
     let words = count(&head, 0);
     if words == 0 {
-        return Turn::End;
+        return Ok(None);
     }
     if words > 8192 {
-        return Turn::Bad;
+        return Err(BadList {});
     }
-    let bytes = words * 8;
     let mut buffer = io::large_buffer();
-    read_case(&mut buffer[..bytes])
+    let case = read_case(&mut buffer[..words * 8])?;
+    Ok(Some(case))
 }
 
-fn read_case(buffer: &mut [u8]) -> Turn {
+fn read_case(buffer: &mut [u8]) -> Result<Case, BadList> {
     let got = io::read_full(STDIN, buffer);
-    if got < buffer.len() {
-        return Turn::Bad;
+    if got < buffer.len() || !is_case(buffer) {
+        return Err(BadList {});
     }
-    judge(buffer)
+    Ok(Case::one(count(buffer, 0), is_right(buffer)))
 }
 
-fn judge(w: &[u8]) -> Turn {
-    if !is_case(w) {
-        return Turn::Bad;
-    }
+// Whether the call of a case answers as the list says, and leaves every slice as it says.
+fn is_right(w: &[u8]) -> bool {
     let mut a = numbers(w, 0);
     let mut b = numbers(w, 1);
     let mut c = numbers(w, 2);
@@ -60,64 +47,36 @@ fn judge(w: &[u8]) -> Turn {
     let lb = length_of(w, 1);
     let lc = length_of(w, 2);
     let ld = length_of(w, 3);
-    let op = count(w, 0);
-    if agrees(w, &mut a[..la], &mut b[..lb], &mut c[..lc], &mut d[..ld]) {
-        return Turn::Right { op };
-    }
-    Turn::Wrong { op }
+    agrees(w, &mut a[..la], &mut b[..lb], &mut c[..lc], &mut d[..ld])
 }
 
 // Slice i's numbers before the call, and zeros after them.
 fn numbers(w: &[u8], i: usize) -> [f64; 512]
     ensures { 512 ≡ length result }
 {
-    let mut x = room();
+    let mut x = [0.0; 512];
     let n = length_of(w, i);
     fill(w, on(place(w, i), 1), &mut x[..n]);
     x
 }
 
-fn room() -> [f64; 512]
-    ensures { 512 ≡ length result }
-{
-    [0.0; 512]
-}
-
 // Whether the call on a, b, c and d answers as the list says, and every slice is afterwards what it says.
 fn agrees(w: &[u8], a: &mut [f64], b: &mut [f64], c: &mut [f64], d: &mut [f64]) -> bool {
-    if !matches(w, answer(w), call(head_of(w), a, b, c, d)) {
-        return false;
-    }
-    same_slices(w, a, b, c, d)
+    matches(w, answer(w), call(head_of(w), a, b, c, d)) && same_slices(w, a, b, c, d)
 }
 
 fn same_slices(w: &[u8], a: &[f64], b: &[f64], c: &[f64], d: &[f64]) -> bool {
-    if !same_slice(w, after(w, 0), a) {
-        return false;
-    }
-    if !same_slice(w, after(w, 1), b) {
-        return false;
-    }
-    if !same_slice(w, after(w, 2), c) {
-        return false;
-    }
-    same_slice(w, after(w, 3), d)
+    same_slice(w, after(w, 0), a)
+        && same_slice(w, after(w, 1), b)
+        && same_slice(w, after(w, 2), c)
+        && same_slice(w, after(w, 3), d)
 }
 
 // Whether the words are laid out as those of a case: an op, as many slices as it takes, none longer than the room for it, and
 // no word too few or too many.
 fn is_case(w: &[u8]) -> bool {
     let slices = slices_of(count(w, 0));
-    if slices == 0 {
-        return false;
-    }
-    if count(w, 5) != slices {
-        return false;
-    }
-    if !have_room(w, slices) {
-        return false;
-    }
-    after(w, slices) == w.len() / 8
+    slices != 0 && count(w, 5) == slices && have_room(w, slices) && after(w, slices) == w.len() / 8
 }
 
 // How many slices an op takes; 0 where there is no such op.
@@ -131,12 +90,7 @@ fn slices_of(op: usize) -> usize {
 }
 
 fn have_room(w: &[u8], slices: usize) -> bool {
-    for i in 0..slices {
-        if count(w, place(w, i)) > ROOM {
-            return false;
-        }
-    }
-    true
+    (0..slices).all(|i| count(w, place(w, i)) <= ROOM)
 }
 
 // The length of slice i, at most the room for it; 0 where the case has no such slice.
@@ -146,11 +100,7 @@ fn length_of(w: &[u8], i: usize) -> usize
     if count(w, 5) <= i {
         return 0;
     }
-    let n = count(w, place(w, i));
-    if n > ROOM {
-        return ROOM;
-    }
-    n
+    ROOM.min(count(w, place(w, i)))
 }
 
 // Where slice i's length stands; past the last slice, where the answer does.

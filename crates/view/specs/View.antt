@@ -1,17 +1,15 @@
 -- One entry of a block, asked for by its row and column. Assumes nothing.
 use Rattle.std.specs.Prelude.{ℕ, cond, List, [], ◌∷◌, length, nat_lt}
-use Rattle.std.specs.Prelude.{Float}
+use Rattle.std.specs.Prelude.{Float, Result}
 use Rattle.scalar.specs.Block.{at}
-use Rattle.refusal.specs.Refusal.{Told, accepted, done, bad_dimension, shapes_disagree, first_of, verdict}
+use Rattle.refusal.specs.Refusal.{Told, accepted, done, shapes_disagree, told_by, first_of, verdict}
+use Rattle.refusal.specs.Shaped.{told_error}
+use Rattle.refusal.specs.declared.ShapeError.{ShapeError}
 use Rattle.refusal.specs.Check.{size_check, area_check}
-use Rattle.view.specs.declared.Looked.{Looked}
-use Rattle.view.specs.declared.Looked.TheVariants.{Accepted, Dimension, Mismatch}
 
 -- the outcome as document 01 words it
-abbrev pub told_looked : Looked → Told
-told_looked (Accepted n) = accepted [] (n.value ∷ [])
-told_looked (Dimension place) = bad_dimension place
-told_looked (Mismatch place) = shapes_disagree place
+abbrev pub told_looked : Result Float ShapeError → Told
+told_looked = told_by (λ x. accepted [] (x ∷ [])) told_error
 
 -- 12: an index passes that is below `n`
 abbrev pub index_check : (place i n : ℕ) → Told

@@ -3,13 +3,12 @@
 // and call those; each is proved by a walk of its MIR.
 #![tactic(auto)]
 
-ghost use Rattle.std.specs.Prelude.{◌≡◌, length};
-ghost use Rattle.refusal.specs.Refusal.{first_of};
+ghost use Rattle.std.specs.Prelude.{◌≡◌, ◌*◌, ◌<◌, length, OnOk};
 ghost use Rattle.refusal.specs.Shaped.{told, Answers};
 ghost use Rattle.kernel_vector.specs.Vector.{sub_mat_plus_vec, vector_verdict};
 ghost use Rattle.view.specs.View.{index_check, entry_verdict, entry_of, told_looked};
 
-use refusal::{Shaped, area, refused, size, unchecked};
+use refusal::{ShapeError, area, size};
 use scalar::cores::entry;
 
 // A block: its numbers, column by column, its height and its width.
@@ -20,68 +19,65 @@ pub struct BlockView<'a> {
     pub width: usize,
 }
 
-#[derive(Clone, Copy)]
-pub struct Number {
-    pub value: f64,
-}
-
-// The outcome of a look at one entry. A place is, for 2, 0 for the height and 1 for the width; for 12, 0 for the slice, 1
-// for the row and 2 for the column.
-#[derive(Clone, Copy)]
-pub enum Looked {
-    Accepted(Number),
-    // 2
-    Dimension { place: usize },
-    // 12
-    Mismatch { place: usize },
-}
-
 // ---- on the slice and the sizes
 
-// The number in row r and column c.
-pub fn entry_of(data: &[f64], height: usize, width: usize, r: usize, c: usize) -> Looked
+// The number in row r and column c. The places of a refusal are, for 2, 0 for the height and 1 for the width; for 12, 0 for
+// the slice, 1 for the row and 2 for the column.
+pub fn entry_of(
+    data: &[f64],
+    height: usize,
+    width: usize,
+    r: usize,
+    c: usize,
+) -> Result<f64, ShapeError>
     ensures { told_looked result ≡ entry_of «data».now height width r c }
 {
-    let s = entry_shapes(height, width, data.len(), r, c);
-    match s {
-        Shaped::Accepted(_) => {
-            let value = entry(data, height, width, r, c);
-            Looked::Accepted(Number { value })
-        }
-        Shaped::Dimension { place } => Looked::Dimension { place },
-        Shaped::Mismatch { place } => Looked::Mismatch { place },
-    }
+    entry_shapes(height, width, data.len(), r, c)?;
+    let value = entry(data, height, width, r, c);
+    Ok(value)
 }
 
 // y := y - A b, with A the block. The places are the kernel's: of the slices, y is 0, the block 1 and b 2.
-pub fn minus_product(data: &[f64], height: usize, width: usize, b: &[f64], y: &mut [f64]) -> Shaped
+pub fn minus_product(
+    data: &[f64],
+    height: usize,
+    width: usize,
+    b: &[f64],
+    y: &mut [f64],
+) -> Result<(), ShapeError>
     ensures { Answers (vector_verdict height width (length y.old) (length «data».now) (length b.now)) y.old (sub_mat_plus_vec height width y.old «data».now b.now) result y.new }
 {
     kernel_vector::sub_mat_plus_vec_inplace(height, width, y, data, b)
 }
 
 // The shapes of a look at one entry.
-fn entry_shapes(height: usize, width: usize, count: usize, r: usize, c: usize) -> Shaped
-    ensures { told result ≡ entry_verdict height width count r c }
+#[tactic(auto, using(refusal::proofs::Laws::in_order), unfolding(crate::specs::View::entry_verdict))]
+fn entry_shapes(
+    height: usize,
+    width: usize,
+    count: usize,
+    r: usize,
+    c: usize,
+) -> Result<(), ShapeError>
+    ensures verdict { told result ≡ entry_verdict height width count r c }
+    ensures fits { OnOk result ((r < height) × (c < width) × (count ≡ height * width)) }
 {
-    let s = size(unchecked(), 0, 0, height);
-    let s = size(s, 0, 1, width);
-    let s = area(s, 0, height, width, count);
-    let s = below(s, 1, r, height);
-    below(s, 2, c, width)
+    size(0, 0, height)?;
+    size(0, 1, width)?;
+    area(0, height, width, count)?;
+    below(1, r, height)?;
+    below(2, c, width)
 }
 
-// `before`, or where it passes what the index `i` says: it passes below `n`.
-fn below(before: Shaped, place: usize, i: usize, n: usize) -> Shaped
-    ensures { told result ≡ first_of (told before) (index_check place i n) }
+// The index `i` passes below `n`.
+fn below(place: usize, i: usize, n: usize) -> Result<(), ShapeError>
+    ensures check { told result ≡ index_check place i n }
+    ensures fits { OnOk result (i < n) }
 {
-    if refused(before) {
-        return before;
-    }
     if i < n {
-        return before;
+        return Ok(());
     }
-    Shaped::Mismatch { place }
+    Err(ShapeError::Mismatch { place })
 }
 
 // ---- on the view
@@ -98,7 +94,7 @@ pub fn block<'a>(numbers: &'a [f64], height: usize, width: usize) -> BlockView<'
 }
 
 // The number in row r and column c.
-pub fn get<'a>(v: BlockView<'a>, r: usize, c: usize) -> Looked
+pub fn get<'a>(v: BlockView<'a>, r: usize, c: usize) -> Result<f64, ShapeError>
     ensures { told_looked result ≡ entry_of v.entry.data.now v.entry.height v.entry.width r c }
 {
     entry_of(v.data, v.height, v.width, r, c)
@@ -109,7 +105,7 @@ pub fn sub_mat_plus_vec_inplace<'a, 'b, 'c>(
     v: BlockView<'a>,
     b: &'b [f64],
     y: &'c mut [f64],
-) -> Shaped
+) -> Result<(), ShapeError>
     ensures { Answers (vector_verdict v.entry.height v.entry.width (length y.old) (length v.entry.data.now) (length b.now)) y.old (sub_mat_plus_vec v.entry.height v.entry.width y.old v.entry.data.now b.now) result y.new }
 {
     minus_product(v.data, v.height, v.width, b, y)
@@ -122,7 +118,7 @@ pub fn sub_block_times_vec(
     width: usize,
     b: &[f64],
     y: &mut [f64],
-) -> Shaped
+) -> Result<(), ShapeError>
     ensures { Answers (vector_verdict height width (length y.old) (length numbers.now) (length b.now)) y.old (sub_mat_plus_vec height width y.old numbers.now b.now) result y.new }
 {
     sub_mat_plus_vec_inplace(block(numbers, height, width), b, y)

@@ -1,2 +1,2 @@
--- What belongs to no one function: the laws of tests, of marks, of parts that are lent, and of sums.
+-- What belongs to no one function: the laws of several tests together.
 pub mod Laws

@@ -1,17 +1,13 @@
--- What a table that is lent holds: marks before a call, zeros and marks after it. Assumes nothing.
-use Rattle.std.specs.Prelude.{ℕ, ◌+◌, ◌%◌, ◌≤◌, ◌<◌, Bool, true, List, ◌≡◌, length, get_or}
-
--- the mark of a place
-abbrev pub mark_at : ℕ → ℕ
-mark_at k = 3000000000 + k % 1000000000
+-- What a buffer that is lent holds: marks before a call, what the call wrote and marks after it. Assumes nothing.
+use Rattle.std.specs.Prelude.{ℕ, ◌≤◌, ◌<◌, Bool, true, List, ◌≡◌, length, slice_get, Some}
 
 -- each place from some place on holds its mark
-abbrev pub Marked : ℕ → List ℕ → Type 0
-Marked from xs = (k : ℕ) → from ≤ k → k < length xs → get_or xs k 0 ≡ mark_at k
+abbrev pub Marked : {E : Type 0} → (ℕ → E) → ℕ → List E → Type 0
+Marked marks from xs = (k : ℕ) → from ≤ k → k < length xs → slice_get xs k ≡ Some (marks k)
 
--- so many places are there, and hold 0
-abbrev pub Zeros : ℕ → List ℕ → Type 0
-Zeros upto xs = (upto ≤ length xs) × ((k : ℕ) → k < upto → get_or xs k 0 ≡ 0)
+-- so many places are there, and hold x
+abbrev pub Holds : {E : Type 0} → ℕ → E → List E → Type 0
+Holds upto x xs = (upto ≤ length xs) × ((k : ℕ) → k < upto → slice_get xs k ≡ Some x)
 
 -- what a test of a fact tells
 pub record Tells (fact : Type 0) (r : Bool) : Type 0 where

@@ -1,19 +1,18 @@
--- Counts by kind, which stop at the greatest number of 64 bits. Assumes nothing.
-use Rattle.std.specs.Prelude.{ℕ, zero, suc, ◌+◌, min, cond, List, ltb, get_or, set}
-
--- the number, or the greatest
-abbrev pub capped : ℕ → ℕ
-capped n = min n 18446744073709551615
+-- Counts by kind. Assumes nothing.
+use Rattle.std.specs.Prelude.{ℕ, cond, List, nat_lt, length, slice_index_or, slice_set, fold}
+use Rattle.word_list.specs.declared.tally.Count.{Count}
+use Rattle.word_list.specs.Count.{none, more}
 
 -- where a kind is counted: at its own place, at 0 where it has none
-abbrev pub place_of : ℕ → ℕ
-place_of kind = cond (ltb kind 16) kind 0
+abbrev pub place_of : (kinds kind : ℕ) → ℕ
+place_of kinds kind = cond (nat_lt kind kinds) kind 0
 
 -- some more of a kind
-abbrev pub tallied : List ℕ → ℕ → ℕ → List ℕ
-tallied counts kind by = set counts (place_of kind) (capped (get_or counts (place_of kind) 0 + by))
+abbrev pub counted : List Count → ℕ → Count → List Count
+counted counts kind by =
+    let at = place_of (length counts) kind in
+    slice_set counts at (more (slice_index_or counts at none) by)
 
--- the first n kinds together
-unfoldable pub sum_to : List ℕ → ℕ → ℕ
-sum_to counts zero = 0
-sum_to counts (suc n) = sum_to counts n + get_or counts n 0
+-- all kinds together
+abbrev pub summed : List Count → Count
+summed counts = fold more none counts

@@ -1,9 +1,5 @@
--- The words of a list: 32 bits each, little-endian. Assumes nothing.
-use Rattle.std.specs.Prelude.{ℕ, ◌+◌, ◌*◌, List, get_or}
-
--- the word that four bytes make
-abbrev pub word_of : List ℕ → ℕ
-word_of b = get_or b 0 0 + 256 * get_or b 1 0 + 65536 * get_or b 2 0 + 16777216 * get_or b 3 0
+-- The words of a list, 32 bits each. Assumes nothing.
+use Rattle.std.specs.Prelude.{ℕ, ◌+◌, ◌*◌}
 
 -- the number that a low and a high word make
 abbrev pub whole_of : ℕ → ℕ → ℕ

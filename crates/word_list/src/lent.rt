@@ -1,87 +1,127 @@
 // The tables that are lent to a call: marked before it, and after it zeros or what the list says, and marks beyond.
-ghost use Rattle.std.specs.Prelude.{◌≡◌, true, ◌&&◌, ◌≤◌, length};
-ghost use Rattle.word_list.specs.Lent.{mark_at, Marked, Zeros, Tells};
+ghost use Rattle.std.specs.Prelude.{◌≡◌, true, ◌≤◌, ◌<◌, length, drop, IfSome};
+ghost use Rattle.word_list.specs.Lent.{Marked, Holds, Tells};
 
-use crate::words::listed;
+use crate::entry::Entry;
+
+// A buffer to lend, marked.
+pub fn lent<E: Entry, const N: usize>() -> [E; N]
+    ensures room { N ≡ length result }
+    ensures marked { Marked E.marks 0 result }
+{
+    let mut x = [E::zero(); N];
+    mark(&mut x);
+    x
+}
+
+// The next entries of the list as a table.
+pub fn table<E: Entry, const N: usize>(upto: usize) -> [E; N]
+    ensures { N ≡ length result }
+{
+    let mut x = [E::zero(); N];
+    read(&mut x, upto);
+    x
+}
 
 // Sets the mark of each place.
-pub fn mark(out: &mut [u32])
-    ensures { (length out.new ≡ length out.old) × Marked 0 out.new }
+pub fn mark<E: Entry>(out: &mut [E])
+    ensures room { length out.new ≡ length out.old }
+    ensures marked { Marked E.marks 0 out.new }
 {
     for k in 0..out.len() {
-        out[k] = mark_at(k);
+        out[k] = E::mark(k);
     }
 }
 
-fn mark_at(k: usize) -> u32
-    ensures { result ≡ mark_at k }
+// Fills the first `upto` places of a table from the list, with 0 where the input has ended. The places beyond stay.
+pub fn read<E: Entry>(out: &mut [E], upto: usize)
+    ensures { drop upto out.new ≡ drop upto out.old }
 {
-    3000000000 + (k % 1000000000) as u32
-}
-
-// Whether each place from `from` on has its mark.
-pub fn kept(a: &[u32], from: usize) -> bool
-    ensures { Tells (Marked from a.now) result }
-{
-    for k in from..a.len() {
-        if a[k] != mark_at(k) {
-            return false;
+    for at in 0..upto {
+        let x = E::next().unwrap_or(E::zero());
+        if at < out.len() {
+            out[at] = x;
         }
     }
-    true
 }
 
-// Whether the first `upto` places are there and hold 0.
-pub fn zeros(a: &[u32], upto: usize) -> bool
-    ensures { Tells (Zeros upto a.now) result }
+// Whether the first `upto` places are there and hold the entries that come next, which are read in any case.
+pub fn listed<E: Entry>(a: &[E], upto: usize) -> bool
+    ensures { result ≡ true → upto ≤ length a.now }
 {
-    if upto > a.len() {
-        return false;
-    }
+    let mut same = true;
     for k in 0..upto {
-        if a[k] != 0 {
-            return false;
-        }
-    }
-    true
-}
-
-// Zeros up to a place, and marks from it on.
-pub fn scratch(a: &[u32], upto: usize) -> bool
-    ensures { Tells (Zeros upto a.now × Marked upto a.now) result }
-{
-    if !zeros(a, upto) {
-        return false;
-    }
-    kept(a, upto)
-}
-
-// The words that come next up to a place, and marks from it on.
-pub fn output(a: &[u32], upto: usize) -> bool
-    ensures { result ≡ true → (upto ≤ length a.now) × Marked upto a.now }
-{
-    let same = listed(a, upto);
-    if !kept(a, upto) {
-        return false;
+        let x = E::next();
+        same = is_at(a, k, x) && same;
     }
     same
 }
 
-// Whether all five hold.
-pub fn all(a: bool, b: bool, c: bool, d: bool, e: bool) -> bool
-    ensures { result ≡ (a && (b && (c && (d && e)))) }
+fn is_at<E: Entry>(a: &[E], k: usize, x: Option<E>) -> bool
+    ensures { result ≡ true → k < length a.now }
 {
-    if !a {
+    match x {
+        Some(x) => k < a.len() && a[k].is(x),
+        None => false,
+    }
+}
+
+// Whether each place from `from` on has its mark.
+pub fn kept<E: Entry>(a: &[E], from: usize) -> bool
+    ensures { Tells (Marked E.marks from a.now) result }
+{
+    for k in from..a.len() {
+        if !a[k].is(E::mark(k)) {
+            return false;
+        }
+    }
+    true
+}
+
+// Whether the first `upto` places are there and hold x.
+pub fn holds<E: Entry>(a: &[E], upto: usize, x: E) -> bool
+    ensures { Tells (Holds upto x a.now) result }
+{
+    if upto > a.len() {
         return false;
     }
-    if !b {
-        return false;
+    for place in 0..upto {
+        if !a[place].is(x) {
+            return false;
+        }
     }
-    if !c {
-        return false;
+    true
+}
+
+// x up to a place, and marks from it on.
+pub fn filled<E: Entry>(a: &[E], upto: usize, x: E) -> bool
+    ensures { Tells (Holds upto x a.now × Marked E.marks upto a.now) result }
+{
+    holds(a, upto, x) && kept(a, upto)
+}
+
+// Zeros up to a place, and marks from it on.
+pub fn scratch<E: Entry>(a: &[E], upto: usize) -> bool
+    ensures { Tells (Holds upto E.nought a.now × Marked E.marks upto a.now) result }
+{
+    filled(a, upto, E::zero())
+}
+
+// The entries that come next up to a place, and marks from it on.
+pub fn output<E: Entry>(a: &[E], upto: usize) -> bool
+    ensures { result ≡ true → (upto ≤ length a.now) × Marked E.marks upto a.now }
+{
+    let same = listed(a, upto);
+    kept(a, upto) && same
+}
+
+// The entries that come next up to a place, or there `every` throughout where it is given; and marks from it on.
+pub fn written<E: Entry>(a: &[E], upto: usize, every: Option<E>) -> bool
+    ensures place { result ≡ true → (upto ≤ length a.now) × Marked E.marks upto a.now }
+    ensures every { result ≡ true → IfSome every (λ x. Holds upto x a.now) }
+{
+    match every {
+        Some(x) => filled(a, upto, x),
+        None => output(a, upto),
     }
-    if !d {
-        return false;
-    }
-    e
 }

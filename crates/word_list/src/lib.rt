@@ -2,8 +2,9 @@
 // tally, and what is printed. What is read or written no contract can say; the rest is promised.
 #![tactic(auto)]
 
+pub mod cases;
+pub mod entry;
 pub mod lent;
 pub mod print;
 pub mod room;
 pub mod tally;
-pub mod words;

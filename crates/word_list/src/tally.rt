@@ -1,40 +1,57 @@
 // How many cases of each kind there are, and how many come out as listed.
-ghost use Rattle.std.specs.Prelude.{◌≡◌, ◌+◌, ◌<◌};
-ghost use Rattle.word_list.specs.Tally.{capped, place_of, tallied, sum_to};
+ghost use Rattle.std.specs.Prelude.{◌≡◌, replicate};
+ghost use Rattle.word_list.specs.Tally.{counted, summed};
+ghost use Rattle.word_list.specs.Count.{more, none};
 
-// Counts some more of a kind, at 0 where it has no place of its own.
-pub fn tally(counts: &mut [usize; 16], kind: usize, by: usize)
-    ensures { counts.new ≡ tallied counts.old kind by }
-{
-    let at = place(kind);
-    counts[at] = sum(counts[at], by);
+// So many cases, of which so many come out as listed. Each number stops at the greatest.
+#[derive(Clone, Copy)]
+pub struct Count {
+    pub cases: usize,
+    pub right: usize,
 }
 
-// Where a kind is counted.
-fn place(kind: usize) -> usize
-    ensures { (result ≡ place_of kind) × (result < 16) }
-{
-    if kind < 16 { kind } else { 0 }
-}
-
-// All kinds together.
-pub fn total(counts: &[usize; 16]) -> usize
-    ensures { result ≡ capped (sum_to counts.now 16) }
-{
-    let mut all: usize = 0;
-    for kind in 0..16usize {
-        all = sum(all, counts[kind]);
+impl Count {
+    // Some cases more.
+    pub fn more(self, by: Count) -> Count
+        ensures { result ≡ more self by }
+    {
+        Count {
+            cases: self.cases.saturating_add(by.cases),
+            right: self.right.saturating_add(by.right),
+        }
     }
-    all
 }
 
-// The sum, or the greatest number.
-pub fn sum(a: usize, b: usize) -> usize
-    ensures { result ≡ capped (a + b) }
-{
-    if b <= usize::MAX - a {
-        a + b
-    } else {
-        usize::MAX
+// A count for each of N kinds.
+#[derive(Clone, Copy)]
+pub struct Tally<const N: usize> {
+    pub counts: [Count; N],
+}
+
+impl<const N: usize> Tally<N> {
+    pub fn new() -> Self
+        ensures { result.counts ≡ replicate N none }
+    {
+        Tally {
+            counts: [Count { cases: 0, right: 0 }; N],
+        }
+    }
+
+    // Counts some more of a kind, at 0 where it has no place of its own.
+    pub fn add(&mut self, kind: usize, by: Count)
+        ensures { self.new.counts ≡ counted self.old.counts kind by }
+    {
+        let at = if kind < N { kind } else { 0 };
+        if at < N {
+            self.counts[at] = self.counts[at].more(by);
+        }
+    }
+
+    // All kinds together.
+    pub fn total(&self) -> Count
+        ensures { result ≡ summed self.now.counts }
+    {
+        let none = Count { cases: 0, right: 0 };
+        self.counts.iter().fold(none, |all, count| all.more(*count))
     }
 }

@@ -3,4 +3,4 @@ use Rattle.c_abi.proofs.Laws.{numbers}
 use Rattle.c_abi.proofs.beyqaloosh_right_solve_inplace.Goals as goal
 
 pub returns : goal.returns
-returns c = numbers c.right_solve_inplace.ensures c.shaped_number.ensures
+returns c = numbers c.right_solve_inplace.ensures c.number_of.ensures

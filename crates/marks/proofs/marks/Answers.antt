@@ -24,31 +24,31 @@ pub returns-then-n-gt4096 : goal.returns-then-n-gt4096
 unfolding marks_verdict
 returns-then-n-gt4096 c = refused _ _ _ _ _ _ _ (stops (drop 1 (checks c)) (blocks-stop _ c.if-n-gt4096.true) refl) refl
 
-abbrev checks-2 : goal.Then-k2-n → List Told
+abbrev checks-2 : goal.In-Some → List Told
 checks-2 s = marks_checks s.args.dims.now s.args.order.now (length s.args.d.now) s.args.tol (length s.args.marks.now)
 
 -- past each test, what is left of the verdict is all of it
-past-blocks : (c : goal.Then-k2-n) → verdict (drop 1 (checks-2 c)) ≡ verdict (checks-2 c)
+past-blocks : (c : goal.In-Some) → verdict (drop 1 (checks-2 c)) ≡ verdict (checks-2 c)
 past-blocks c = goes (drop 1 (checks-2 c)) (blocks-go _ c.if-n-gt4096.false)
 
-pub returns-then-k2-n : goal.returns-then-k2-n
+pub returns-in-Some : goal.returns-in-Some
 unfolding marks_verdict
-returns-then-k2-n c =
-    refused _ _ _ _ _ _ _ (stops (drop 2 (checks-2 c)) (dims-stop _ _ c.first_dim-k2.ensures c.if-k2-n.true) refl ∙ past-blocks c) refl
+returns-in-Some c =
+    refused _ _ _ _ _ _ _ (stops (drop 2 (checks-2 c)) (dims-stop _ _ c.in-Some.ensures) refl ∙ past-blocks c) refl
 
-abbrev checks-3 : goal.Then-k8-n → List Told
+abbrev checks-3 : goal.In-Some-first_perm → List Told
 checks-3 s = marks_checks s.args.dims.now s.args.order.now (length s.args.d.now) s.args.tol (length s.args.marks.now)
 
-past-blocks-2 : (c : goal.Then-k8-n) → verdict (drop 1 (checks-3 c)) ≡ verdict (checks-3 c)
+past-blocks-2 : (c : goal.In-Some-first_perm) → verdict (drop 1 (checks-3 c)) ≡ verdict (checks-3 c)
 past-blocks-2 c = goes (drop 1 (checks-3 c)) (blocks-go _ c.if-n-gt4096.false)
 
-past-dims : (c : goal.Then-k8-n) → verdict (drop 2 (checks-3 c)) ≡ verdict (checks-3 c)
-past-dims c = goes (drop 2 (checks-3 c)) (dims-go _ _ c.first_dim-k2.ensures c.if-k2-n.false) ∙ past-blocks-2 c
+past-dims : (c : goal.In-Some-first_perm) → verdict (drop 2 (checks-3 c)) ≡ verdict (checks-3 c)
+past-dims c = goes (drop 2 (checks-3 c)) (dims-go _ c.in_default.ensures) ∙ past-blocks-2 c
 
-pub returns-then-k8-n : goal.returns-then-k8-n
+pub returns-in-Some-first_perm : goal.returns-in-Some-first_perm
 unfolding marks_verdict
-returns-then-k8-n c =
-    refused _ _ _ _ _ _ _ (stops (drop 3 (checks-3 c)) (perm-stop _ _ _ c.first_perm-k8.ensures c.if-k8-n.true) refl ∙ past-dims c) refl
+returns-in-Some-first_perm c =
+    refused _ _ _ _ _ _ _ (stops (drop 3 (checks-3 c)) (perm-stop _ _ _ c.in-Some-first_perm.ensures) refl ∙ past-dims c) refl
 
 abbrev checks-4 : goal.Then-not-is_tolerance → List Told
 checks-4 s = marks_checks s.args.dims.now s.args.order.now (length s.args.d.now) s.args.tol (length s.args.marks.now)
@@ -57,10 +57,10 @@ past-blocks-3 : (c : goal.Then-not-is_tolerance) → verdict (drop 1 (checks-4 c
 past-blocks-3 c = goes (drop 1 (checks-4 c)) (blocks-go _ c.if-n-gt4096.false)
 
 past-dims-2 : (c : goal.Then-not-is_tolerance) → verdict (drop 2 (checks-4 c)) ≡ verdict (checks-4 c)
-past-dims-2 c = goes (drop 2 (checks-4 c)) (dims-go _ _ c.first_dim-k2.ensures c.if-k2-n.false) ∙ past-blocks-3 c
+past-dims-2 c = goes (drop 2 (checks-4 c)) (dims-go _ c.in_default.ensures) ∙ past-blocks-3 c
 
 past-perm : (c : goal.Then-not-is_tolerance) → verdict (drop 3 (checks-4 c)) ≡ verdict (checks-4 c)
-past-perm c = goes (drop 3 (checks-4 c)) (perm-go _ _ _ c.first_perm-k8.ensures c.if-k8-n.false) ∙ past-dims-2 c
+past-perm c = goes (drop 3 (checks-4 c)) (perm-go _ _ c.in_default-first_perm.ensures) ∙ past-dims-2 c
 
 pub returns-then-not-is_tolerance : goal.returns-then-not-is_tolerance
 unfolding marks_verdict
@@ -74,10 +74,10 @@ past-blocks-4 : (c : goal.Then-marks-need) → verdict (drop 1 (checks-5 c)) ≡
 past-blocks-4 c = goes (drop 1 (checks-5 c)) (blocks-go _ c.if-n-gt4096.false)
 
 past-dims-3 : (c : goal.Then-marks-need) → verdict (drop 2 (checks-5 c)) ≡ verdict (checks-5 c)
-past-dims-3 c = goes (drop 2 (checks-5 c)) (dims-go _ _ c.first_dim-k2.ensures c.if-k2-n.false) ∙ past-blocks-4 c
+past-dims-3 c = goes (drop 2 (checks-5 c)) (dims-go _ c.in_default.ensures) ∙ past-blocks-4 c
 
 past-perm-2 : (c : goal.Then-marks-need) → verdict (drop 3 (checks-5 c)) ≡ verdict (checks-5 c)
-past-perm-2 c = goes (drop 3 (checks-5 c)) (perm-go _ _ _ c.first_perm-k8.ensures c.if-k8-n.false) ∙ past-dims-3 c
+past-perm-2 c = goes (drop 3 (checks-5 c)) (perm-go _ _ c.in_default-first_perm.ensures) ∙ past-dims-3 c
 
 past-tolerance : (c : goal.Then-marks-need) → verdict (drop 4 (checks-5 c)) ≡ verdict (checks-5 c)
 past-tolerance c = goes (drop 4 (checks-5 c)) (tolerance-go _ (sym c.is_tolerance.ensures ∙ c.if-not-is_tolerance.false)) ∙ past-perm-2 c
@@ -96,10 +96,10 @@ past-blocks-5 : (c : goal.Then-d-need) → verdict (drop 1 (checks-6 c)) ≡ ver
 past-blocks-5 c = goes (drop 1 (checks-6 c)) (blocks-go _ c.if-n-gt4096.false)
 
 past-dims-4 : (c : goal.Then-d-need) → verdict (drop 2 (checks-6 c)) ≡ verdict (checks-6 c)
-past-dims-4 c = goes (drop 2 (checks-6 c)) (dims-go _ _ c.first_dim-k2.ensures c.if-k2-n.false) ∙ past-blocks-5 c
+past-dims-4 c = goes (drop 2 (checks-6 c)) (dims-go _ c.in_default.ensures) ∙ past-blocks-5 c
 
 past-perm-3 : (c : goal.Then-d-need) → verdict (drop 3 (checks-6 c)) ≡ verdict (checks-6 c)
-past-perm-3 c = goes (drop 3 (checks-6 c)) (perm-go _ _ _ c.first_perm-k8.ensures c.if-k8-n.false) ∙ past-dims-4 c
+past-perm-3 c = goes (drop 3 (checks-6 c)) (perm-go _ _ c.in_default-first_perm.ensures) ∙ past-dims-4 c
 
 past-tolerance-2 : (c : goal.Then-d-need) → verdict (drop 4 (checks-6 c)) ≡ verdict (checks-6 c)
 past-tolerance-2 c = goes (drop 4 (checks-6 c)) (tolerance-go _ (sym c.is_tolerance.ensures ∙ c.if-not-is_tolerance.false)) ∙ past-perm-3 c
@@ -123,10 +123,10 @@ as_many c = omega (arith, c.if-d-need.false, c.scalars-need.ensures)
 
 -- what the tests say of the dimensions and the order
 sized : (c : goal.After-mark_core-arg-2-1) → let x = c.args in Sizes x.dims.now × (length x.dims.now ≤ 4096)
-sized c = (sizes-of _ (rw c.first_dim-k2.ensures at c.if-k2-n.false), c.if-n-gt4096.false)
+sized c = (sizes-of _ c.in_default.ensures, c.if-n-gt4096.false)
 
 permuted : (c : goal.After-mark_core-arg-2-1) → let x = c.args in Permutes (length x.dims.now) x.order.now
-permuted c = permutes-of _ _ (rw c.first_perm-k8.ensures at c.if-k8-n.false)
+permuted c = permutes-of _ _ c.in_default-first_perm.ensures
 
 -- ---- accepted
 -- the first bytes, one for each scalar
@@ -145,10 +145,10 @@ past-blocks-6 : (c : goal.After-slice_known-2-1) → verdict (drop 1 (checks-7 c
 past-blocks-6 c = goes (drop 1 (checks-7 c)) (blocks-go _ c.if-n-gt4096.false)
 
 past-dims-5 : (c : goal.After-slice_known-2-1) → verdict (drop 2 (checks-7 c)) ≡ verdict (checks-7 c)
-past-dims-5 c = goes (drop 2 (checks-7 c)) (dims-go _ _ c.first_dim-k2.ensures c.if-k2-n.false) ∙ past-blocks-6 c
+past-dims-5 c = goes (drop 2 (checks-7 c)) (dims-go _ c.in_default.ensures) ∙ past-blocks-6 c
 
 past-perm-4 : (c : goal.After-slice_known-2-1) → verdict (drop 3 (checks-7 c)) ≡ verdict (checks-7 c)
-past-perm-4 c = goes (drop 3 (checks-7 c)) (perm-go _ _ _ c.first_perm-k8.ensures c.if-k8-n.false) ∙ past-dims-5 c
+past-perm-4 c = goes (drop 3 (checks-7 c)) (perm-go _ _ c.in_default-first_perm.ensures) ∙ past-dims-5 c
 
 past-tolerance-3 : (c : goal.After-slice_known-2-1) → verdict (drop 4 (checks-7 c)) ≡ verdict (checks-7 c)
 past-tolerance-3 c = goes (drop 4 (checks-7 c)) (tolerance-go _ (sym c.is_tolerance.ensures ∙ c.if-not-is_tolerance.false)) ∙ past-perm-4 c
@@ -174,7 +174,7 @@ returns c =
     answered _ _ _ _ _ _ _ _ (past-shape c) (ap (λ n. accepted (n ∷ []) []) b.ensures.0) (rw (b.ensures.1, c.scalars-need.ensures))
 
 sized-2 : (c : goal.Else-not-is_tolerance) → let x = c.args in Sizes x.dims.now × (length x.dims.now ≤ 4096)
-sized-2 c = (sizes-of _ (rw c.first_dim-k2.ensures at c.if-k2-n.false), c.if-n-gt4096.false)
+sized-2 c = (sizes-of _ c.in_default.ensures, c.if-n-gt4096.false)
 
 pub scalars-need-requires : goal.scalars-need-requires
 scalars-need-requires c = sized-2 c

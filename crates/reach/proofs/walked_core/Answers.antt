@@ -14,15 +14,6 @@ returns-then-found-n c = let e = found-short _ _ _ _ c.if-stamps-n.false c.if-fo
 pub returns-then-n-j : goal.returns-then-n-j
 returns-then-n-j c = let e = past-last _ _ _ _ c.if-stamps-n.false c.if-found-n.false c.if-n-j.true in refused _ _ _ _ _ _ _ _ _ (sym e) (ap refuses e)
 
-pub overflow_cast-from : goal.overflow_cast-from
-overflow_cast-from c = omega (arith, c.shared_slice_known-4-1.given c.args.j)
-
-pub overflow_cast-to : goal.overflow_cast-to
-overflow_cast-to c = omega (arith, c.shared_slice_known-5-1.given (c.args.j + 1))
-
-pub offset_bounds-rows-from : goal.offset_bounds-rows-from
-offset_bounds-rows-from c = omega (arith, c.shared_slice_known-4-1.given c.args.j)
-
 pub slice_bounds-reach_core-count : goal.slice_bounds-reach_core-count
 slice_bounds-reach_core-count c = c.requires.columns.ordered.rising c.args.j c.if-n-j.false
 
@@ -38,8 +29,8 @@ slice_bounds-reach_core-end-3 c = sym (length-take-le (length c.args.parents.now
 pub slice_bounds-reach_core-end-5 : goal.slice_bounds-reach_core-end-5
 slice_bounds-reach_core-end-5 c = sym (length-take-le (length c.args.parents.now) c.args.found.now (omega arith))
 
-pub reach_core-m-requires : goal.reach_core-m-requires
-reach_core-m-requires c =
+pub reach_core-requires : goal.reach_core-requires
+reach_core-requires c =
     let n = length c.args.parents.now in record { parents = (rule-of _ _ _ c.requires, c.if-n-j.false); stamp_len = (length-take-le n c.args.stamps.now (omega arith), length-take-le n c.args.found.now (omega arith)) }
 
 pub returns : goal.returns
@@ -48,7 +39,7 @@ returns c =
     let rows = c.args.rows.now in
     let parents = c.args.parents.now in
     let j = c.args.j in
-    let call = c.reach_core-m in
+    let call = c.reach_core in
     let part = take (get_or starts (j + 1) 0 - get_or starts j 0) (drop (get_or starts j 0) rows) in
     walked starts rows parents j c.args.mark c.args.stamps.now c.args.found.now _ _ part call.new.stamp call.new.out call.result.mark call.result.top refl
     (needs-met (length parents) j (length c.args.stamps.now) (length c.args.found.now) (omega arith) (omega arith) c.if-n-j.false)

@@ -10,7 +10,7 @@ unfolding block_ldlt
 returns-then-is_poor c =
     let x = c.args in
     let is-poor = sym c.is_poor.ensures ∙ c.if-is_poor.true in
-    let settled = ap (settle x.n) (rw c.in-Accepted.is at c.ldlt_decompose_core-r.ensures) in
+    let settled = ap (settle x.n) (rw c.in-Ok.is at c.ldlt_decompose_core-r.ensures) in
     let factor : length c.ldlt_decompose_core-r.new.a ≡ x.n * x.n = omega (arith, c.ldlt_decompose_core-r.auto.a, c.copy.auto.to) in
     let diagonal : length c.ldlt_decompose_core-r.new.d ≡ x.n = omega (arith, c.ldlt_decompose_core-r.auto.d) in
     rw (c.blank.ensures, c.blank-then-is_poor.ensures, factor, diagonal, ← c.copy.ensures)
@@ -22,11 +22,11 @@ returns-else-is_poor c =
     let x = c.args in
     let fine = sym c.is_poor.ensures ∙ c.if-is_poor.false in
     rw (← c.copy.ensures)
-    (rw fine at (ap (settle x.n) (rw c.in-Accepted.is at c.ldlt_decompose_core-r.ensures)))
+    (rw fine at (ap (settle x.n) (rw c.in-Ok.is at c.ldlt_decompose_core-r.ensures)))
 
-pub returns-in-NotFinite : goal.returns-in-NotFinite
+pub returns-in-Err : goal.returns-in-Err
 unfolding block_ldlt
-returns-in-NotFinite c =
+returns-in-Err c =
     let x = c.args in
     rw (← c.copy.ensures)
-    (ap (settle x.n) (rw c.in-NotFinite.is at c.ldlt_decompose_core-r.ensures))
+    (ap (settle x.n) (rw c.in-Err.is at c.ldlt_decompose_core-r.ensures))

@@ -22,9 +22,3 @@ loop-i-preserved c = rw c.block_area-s.ensures (added c.loop-i.invariant c.loop-
 
 pub returns : goal.returns
 returns c = all-added c.loop-i.invariant c.loop-i-test.false
-
-pub overflow_add-i : goal.overflow_add-i
-overflow_add-i c = omega arith
-
-pub loop-i-smaller : goal.loop-i-smaller
-loop-i-smaller c = omega arith

@@ -1,48 +1,10 @@
--- `columns::cores::first_row` meets its contract: the search goes one column after the other. Assumes nothing.
-use Rattle.std.specs.Prelude.{◌≡◌, ℕ, ◌+◌, Bool}
-use Prim.Native.Nat.{zero-le}
-use native.Mathlib.Omega.{arith}
-use Rattle.tables.specs.Search.{first}
-use Rattle.tables.specs.Verdict.{at, row_ok}
+-- `columns::cores::first_row` meets its contract: the test is the definition's. Assumes nothing.
+use Rattle.std.proofs.Common.{rules}
+use Rattle.tables.specs.Verdict.{row_ok}
 use Rattle.columns.specs.Least.{least_row}
-use Rattle.tables.proofs.SearchLaws.{searched, ended}
-use Rattle.tables.proofs.ColumnLaws.{column-failed, column-passed}
 use Rattle.columns.proofs.cores.first_row.Goals as goal
-
-pub loop-j-init : goal.loop-j-init
-loop-j-init c = let o = c.requires.1 in (zero-le, rw o.begins (searched zero-le))
-
-pub first_row_in-p-requires : goal.first_row_in-p-requires
-first_row_in-p-requires c =
-    let o = c.requires.1 in
-    let j = c.loop-j.j in
-    omega (arith, o.rising j c.loop-j-test.true, o.inside (j + 1) (omega arith))
-
--- a place's test, by its column
-abbrev test : goal.Then-p-hi → ℕ → ℕ → Bool
-test s j = row_ok s.args.rows.now s.args.n (least_row s.args.least j)
-
--- what the search of column j found
-found : (c : goal.Then-p-hi) → let j = c.loop-j.j in c.first_row_in-p.result ≡ first (test c j) (at c.args.starts.now j) (at c.args.starts.now (j + 1))
-found c = rw (← c.least_row-from.ensures, ← c.wide-lo.ensures, ← c.wide-hi.ensures) c.first_row_in-p.ensures
-
-pub returns-then-p-hi : goal.returns-then-p-hi
-returns-then-p-hi c =
-    column-failed c.requires.1 (test c) c.loop-j.j _ c.loop-j-test.true (found c) c.loop-j.invariant.1 (rw c.wide-hi.ensures at c.if-p-hi.true)
-
-abbrev test-2 : goal.Else-p-hi → ℕ → ℕ → Bool
-test-2 s j = row_ok s.args.rows.now s.args.n (least_row s.args.least j)
-
-found-2 : (c : goal.Else-p-hi) → let j = c.loop-j.j in c.first_row_in-p.result ≡ first (test-2 c j) (at c.args.starts.now j) (at c.args.starts.now (j + 1))
-found-2 c = rw (← c.least_row-from.ensures, ← c.wide-lo.ensures, ← c.wide-hi.ensures) c.first_row_in-p.ensures
-
-pub loop-j-preserved : goal.loop-j-preserved
-loop-j-preserved c =
-    let past = column-passed c.requires.1 (test-2 c) c.loop-j.j _ c.loop-j-test.true (found-2 c) c.loop-j.invariant.1 (rw c.wide-hi.ensures at c.if-p-hi.false) in
-    (omega arith, past)
 
 pub returns : goal.returns
 returns c =
-    let last : c.loop-j.j ≡ c.args.n = omega arith in
-    let whole = rw (last, c.requires.1.ends) at c.loop-j.invariant.1 in
-    ended whole (omega arith)
+    let x = c.args in
+    c.first_in_columns.ensures _ (λ j. row_ok x.rows.now x.n (least_row x.least j)) c.requires.1 (search rules)

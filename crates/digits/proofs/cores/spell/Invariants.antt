@@ -1,10 +1,7 @@
 -- `digits::cores::spell` meets its contract: what is written with what is left to write is the whole. Assumes nothing.
-use Rattle.std.specs.Prelude.{◌≡◌, ◌≤◌, length}
+use Rattle.std.specs.Prelude.{◌≡◌, length}
 use Rattle.digits.proofs.Laws.{spelt}
 use Rattle.digits.proofs.cores.spell.Given as goal
 
 abbrev pub invariant-loop-i : goal.invariant-loop-i
-invariant-loop-i l = (l.i ≤ l.k) × (length l.out ≡ length l.initial.out) × (spelt l.at l.base l.out l.i l.rest ≡ spelt l.at l.base l.initial.out l.k l.n)
-
-abbrev pub decreases-loop-i : goal.decreases-loop-i
-decreases-loop-i l = l.i
+invariant-loop-i l = (length l.out ≡ length l.initial.out) × (spelt l.at l.base l.out l.i l.rest ≡ spelt l.at l.base l.initial.out l.k l.n)

@@ -1,10 +1,6 @@
 -- `elimination_tree::cores::column` meets its contract: by what is left of the rows. Assumes nothing.
-use Rattle.std.specs.Prelude.{◌-◌}
 use Rattle.elimination_tree.proofs.Turns.{Scanning}
 use Rattle.elimination_tree.proofs.cores.column.Given as goal
 
 abbrev pub invariant-loop-q : goal.invariant-loop-q
 invariant-loop-q l = Scanning l.j l.rows l.from l.to l.initial.parent l.initial.ancestor l.parent l.ancestor l.q
-
-abbrev pub decreases-loop-q : goal.decreases-loop-q
-decreases-loop-q l = l.to - l.q

@@ -1,11 +1,7 @@
 -- `factor_checked::cores::factor_checked` meets its contract: the tables are refused, or they pass and the needs decide. Assumes nothing.
-use Rattle.std.specs.Prelude.{◌≡◌}
-use mathlib.Core.Path.{refl, sym, ap, ◌∙◌}
-use Rattle.refusal.specs.Refusal.{done, refuses}
-use Rattle.tables.specs.Sound.{SystemSound}
-use Rattle.tables.specs.Verdict.{system_verdict}
+use mathlib.Core.Path.{sym, ap, ◌∙◌}
+use Rattle.refusal.specs.Refusal.{refuses}
 use Rattle.tables.proofs.Sound.{system-sound}
-use Rattle.checks.specs.Outcome.{told_system}
 use Rattle.machine.specs.System.{System}
 use Rattle.factor_setup.specs.Exact.{system}
 use Rattle.factor_core.specs.Factorize.{Places, lent}
@@ -13,29 +9,14 @@ use Rattle.factor_room.proofs.Laws.{same-verdict}
 use Rattle.factor_checked.proofs.Laws.{tables_refused, tables-passed, few-handed-in, same-bound}
 use Rattle.factor_checked.proofs.cores.factor_checked.Goals as goal
 
--- what is handed in and lent
-abbrev the-system : goal.In-Accepted → System
-the-system start = system start.args.dims.now start.args.starts.now start.args.rows.now start.args.values.now start.args.perm.now start.args.late.now start.args.tol
-
--- where the outcome of the tables says accepted, their verdict is that nothing is wrong
-passes : (c : goal.In-Accepted) → done ≡ system_verdict c.args.dims.now c.args.starts.now c.args.rows.now c.args.values.now c.args.perm.now c.args.late.now c.args.tol
-passes c = sym (ap told_system c.in-Accepted.is) ∙ c.check_system-tables.ensures
-
--- and they say what they must at every place
-sound : (c : goal.In-Accepted) → SystemSound c.args.dims.now c.args.starts.now c.args.rows.now c.args.values.now c.args.perm.now c.args.late.now c.args.tol
-sound c = system-sound _ _ _ _ _ _ _ (ap refuses (sym (passes c)))
-
 pub kept_bound-most-requires : goal.kept_bound-most-requires
-kept_bound-most-requires c = record { scale_bound = c.requires; late_len_bound = few-handed-in (the-system c) (sound c) }
-
-passes-2 : (c : goal.After-lent_core-arg-in-Accepted-21-1) → done ≡ system_verdict c.args.dims.now c.args.starts.now c.args.rows.now c.args.values.now c.args.perm.now c.args.late.now c.args.tol
-passes-2 c = sym (ap told_system c.in-Accepted.is) ∙ c.check_system-tables.ensures
-
-sound-2 : (c : goal.After-lent_core-arg-in-Accepted-21-1) → SystemSound c.args.dims.now c.args.starts.now c.args.rows.now c.args.values.now c.args.perm.now c.args.late.now c.args.tol
-sound-2 c = system-sound _ _ _ _ _ _ _ (ap refuses (sym (passes-2 c)))
+kept_bound-most-requires c =
+    let x = c.args in
+    let a : System = system x.dims.now x.starts.now x.rows.now x.values.now x.perm.now x.late.now x.tol in
+    record { scale_bound = c.requires; late_len_bound = few-handed-in a (system-sound _ _ _ _ _ _ _ (ap refuses (sym c.in-Ok.ensures))) }
 
 pub lent_core-requires : goal.lent_core-requires
-lent_core-requires c = sound-2 c
+lent_core-requires c = system-sound _ _ _ _ _ _ _ (ap refuses (sym c.in-Ok.ensures))
 
 pub shape_of-order : goal.shape_of-order
 shape_of-order c = c.lent_core.auto.order
@@ -103,107 +84,17 @@ shape_of-places c = c.lent_core.auto.places
 pub shape_of-cache : goal.shape_of-cache
 shape_of-cache c = c.lent_core.auto.cache
 
-abbrev the-system-2 : goal.After-slice_known-in-Accepted-22-1 → System
-the-system-2 start = system start.args.dims.now start.args.starts.now start.args.rows.now start.args.values.now start.args.perm.now start.args.late.now start.args.tol
-
-abbrev the_places : goal.After-slice_known-in-Accepted-22-1 → Places
-the_places start = lent start.args.order.now start.args.parents.now start.args.l_starts.now start.args.l_rows.now start.args.l_offsets.now start.args.l_values.now start.args.diag.now start.args.d.now start.args.column.now start.args.inverse.now start.args.sizes.now start.args.count.now start.args.heads.now start.args.into.now start.args.stamps.now start.args.table.now start.args.upper.now start.args.bodies.now start.args.unit_starts.now start.args.d_starts.now start.args.places.now
-
-passes-3 : (c : goal.After-slice_known-in-Accepted-22-1) → done ≡ system_verdict c.args.dims.now c.args.starts.now c.args.rows.now c.args.values.now c.args.perm.now c.args.late.now c.args.tol
-passes-3 c = sym (ap told_system c.in-Accepted.is) ∙ c.check_system-tables.ensures
-
-pub returns-in-Accepted : goal.returns-in-Accepted
-returns-in-Accepted c =
+pub returns-in-Ok : goal.returns-in-Ok
+returns-in-Ok c =
+    let x = c.args in
     let call = c.lent_core in
-    same-verdict _ (the-system-2 c) (the_places c) c.args.cache.now call.result _ _ (tables-passed (the-system-2 c) (the_places c) (passes-3 c))
-    (same-bound (the-system-2 c) (the_places c) c.args.cache.now call.result _ _ c.kept_bound-most.ensures call.ensures)
+    let a : System = system x.dims.now x.starts.now x.rows.now x.values.now x.perm.now x.late.now x.tol in
+    let b : Places = lent x.order.now x.parents.now x.l_starts.now x.l_rows.now x.l_offsets.now x.l_values.now x.diag.now x.d.now x.column.now x.inverse.now x.sizes.now x.count.now x.heads.now x.into.now x.stamps.now x.table.now x.upper.now x.bodies.now x.unit_starts.now x.d_starts.now x.places.now in
+    same-verdict _ a b x.cache.now call.result _ _ (tables-passed a b c.in-Ok.ensures) (same-bound a b x.cache.now call.result _ _ c.kept_bound-most.ensures call.ensures)
 
-abbrev the-system-3 : goal.In-Blocks → System
-the-system-3 start = system start.args.dims.now start.args.starts.now start.args.rows.now start.args.values.now start.args.perm.now start.args.late.now start.args.tol
-
-abbrev the_places-2 : goal.In-Blocks → Places
-the_places-2 start = lent start.args.order.now start.args.parents.now start.args.l_starts.now start.args.l_rows.now start.args.l_offsets.now start.args.l_values.now start.args.diag.now start.args.d.now start.args.column.now start.args.inverse.now start.args.sizes.now start.args.count.now start.args.heads.now start.args.into.now start.args.stamps.now start.args.table.now start.args.upper.now start.args.bodies.now start.args.unit_starts.now start.args.d_starts.now start.args.places.now
-
-pub returns-in-Blocks : goal.returns-in-Blocks
-returns-in-Blocks c = tables_refused _ (the-system-3 c) (the_places-2 c) c.args.cache.now _ refl (sym (ap told_system c.in-Blocks.is) ∙ c.check_system-tables.ensures)
-
-abbrev the-system-4 : goal.In-Dimension → System
-the-system-4 start = system start.args.dims.now start.args.starts.now start.args.rows.now start.args.values.now start.args.perm.now start.args.late.now start.args.tol
-
-abbrev the_places-3 : goal.In-Dimension → Places
-the_places-3 start = lent start.args.order.now start.args.parents.now start.args.l_starts.now start.args.l_rows.now start.args.l_offsets.now start.args.l_values.now start.args.diag.now start.args.d.now start.args.column.now start.args.inverse.now start.args.sizes.now start.args.count.now start.args.heads.now start.args.into.now start.args.stamps.now start.args.table.now start.args.upper.now start.args.bodies.now start.args.unit_starts.now start.args.d_starts.now start.args.places.now
-
-pub returns-in-Dimension : goal.returns-in-Dimension
-returns-in-Dimension c = tables_refused _ (the-system-4 c) (the_places-3 c) c.args.cache.now _ refl (sym (ap told_system c.in-Dimension.is) ∙ c.check_system-tables.ensures)
-
-abbrev the-system-5 : goal.In-Starts → System
-the-system-5 start = system start.args.dims.now start.args.starts.now start.args.rows.now start.args.values.now start.args.perm.now start.args.late.now start.args.tol
-
-abbrev the_places-4 : goal.In-Starts → Places
-the_places-4 start = lent start.args.order.now start.args.parents.now start.args.l_starts.now start.args.l_rows.now start.args.l_offsets.now start.args.l_values.now start.args.diag.now start.args.d.now start.args.column.now start.args.inverse.now start.args.sizes.now start.args.count.now start.args.heads.now start.args.into.now start.args.stamps.now start.args.table.now start.args.upper.now start.args.bodies.now start.args.unit_starts.now start.args.d_starts.now start.args.places.now
-
-pub returns-in-Starts : goal.returns-in-Starts
-returns-in-Starts c = tables_refused _ (the-system-5 c) (the_places-4 c) c.args.cache.now _ refl (sym (ap told_system c.in-Starts.is) ∙ c.check_system-tables.ensures)
-
-abbrev the-system-6 : goal.In-Stored → System
-the-system-6 start = system start.args.dims.now start.args.starts.now start.args.rows.now start.args.values.now start.args.perm.now start.args.late.now start.args.tol
-
-abbrev the_places-5 : goal.In-Stored → Places
-the_places-5 start = lent start.args.order.now start.args.parents.now start.args.l_starts.now start.args.l_rows.now start.args.l_offsets.now start.args.l_values.now start.args.diag.now start.args.d.now start.args.column.now start.args.inverse.now start.args.sizes.now start.args.count.now start.args.heads.now start.args.into.now start.args.stamps.now start.args.table.now start.args.upper.now start.args.bodies.now start.args.unit_starts.now start.args.d_starts.now start.args.places.now
-
-pub returns-in-Stored : goal.returns-in-Stored
-returns-in-Stored c = tables_refused _ (the-system-6 c) (the_places-5 c) c.args.cache.now _ refl (sym (ap told_system c.in-Stored.is) ∙ c.check_system-tables.ensures)
-
-abbrev the-system-7 : goal.In-Row → System
-the-system-7 start = system start.args.dims.now start.args.starts.now start.args.rows.now start.args.values.now start.args.perm.now start.args.late.now start.args.tol
-
-abbrev the_places-6 : goal.In-Row → Places
-the_places-6 start = lent start.args.order.now start.args.parents.now start.args.l_starts.now start.args.l_rows.now start.args.l_offsets.now start.args.l_values.now start.args.diag.now start.args.d.now start.args.column.now start.args.inverse.now start.args.sizes.now start.args.count.now start.args.heads.now start.args.into.now start.args.stamps.now start.args.table.now start.args.upper.now start.args.bodies.now start.args.unit_starts.now start.args.d_starts.now start.args.places.now
-
-pub returns-in-Row : goal.returns-in-Row
-returns-in-Row c = tables_refused _ (the-system-7 c) (the_places-6 c) c.args.cache.now _ refl (sym (ap told_system c.in-Row.is) ∙ c.check_system-tables.ensures)
-
-abbrev the-system-8 : goal.In-Order → System
-the-system-8 start = system start.args.dims.now start.args.starts.now start.args.rows.now start.args.values.now start.args.perm.now start.args.late.now start.args.tol
-
-abbrev the_places-7 : goal.In-Order → Places
-the_places-7 start = lent start.args.order.now start.args.parents.now start.args.l_starts.now start.args.l_rows.now start.args.l_offsets.now start.args.l_values.now start.args.diag.now start.args.d.now start.args.column.now start.args.inverse.now start.args.sizes.now start.args.count.now start.args.heads.now start.args.into.now start.args.stamps.now start.args.table.now start.args.upper.now start.args.bodies.now start.args.unit_starts.now start.args.d_starts.now start.args.places.now
-
-pub returns-in-Order : goal.returns-in-Order
-returns-in-Order c = tables_refused _ (the-system-8 c) (the_places-7 c) c.args.cache.now _ refl (sym (ap told_system c.in-Order.is) ∙ c.check_system-tables.ensures)
-
-abbrev the-system-9 : goal.In-Values → System
-the-system-9 start = system start.args.dims.now start.args.starts.now start.args.rows.now start.args.values.now start.args.perm.now start.args.late.now start.args.tol
-
-abbrev the_places-8 : goal.In-Values → Places
-the_places-8 start = lent start.args.order.now start.args.parents.now start.args.l_starts.now start.args.l_rows.now start.args.l_offsets.now start.args.l_values.now start.args.diag.now start.args.d.now start.args.column.now start.args.inverse.now start.args.sizes.now start.args.count.now start.args.heads.now start.args.into.now start.args.stamps.now start.args.table.now start.args.upper.now start.args.bodies.now start.args.unit_starts.now start.args.d_starts.now start.args.places.now
-
-pub returns-in-Values : goal.returns-in-Values
-returns-in-Values c = tables_refused _ (the-system-9 c) (the_places-8 c) c.args.cache.now _ refl (sym (ap told_system c.in-Values.is) ∙ c.check_system-tables.ensures)
-
-abbrev the-system-10 : goal.In-Permutation → System
-the-system-10 start = system start.args.dims.now start.args.starts.now start.args.rows.now start.args.values.now start.args.perm.now start.args.late.now start.args.tol
-
-abbrev the_places-9 : goal.In-Permutation → Places
-the_places-9 start = lent start.args.order.now start.args.parents.now start.args.l_starts.now start.args.l_rows.now start.args.l_offsets.now start.args.l_values.now start.args.diag.now start.args.d.now start.args.column.now start.args.inverse.now start.args.sizes.now start.args.count.now start.args.heads.now start.args.into.now start.args.stamps.now start.args.table.now start.args.upper.now start.args.bodies.now start.args.unit_starts.now start.args.d_starts.now start.args.places.now
-
-pub returns-in-Permutation : goal.returns-in-Permutation
-returns-in-Permutation c = tables_refused _ (the-system-10 c) (the_places-9 c) c.args.cache.now _ refl (sym (ap told_system c.in-Permutation.is) ∙ c.check_system-tables.ensures)
-
-abbrev the-system-11 : goal.In-Late → System
-the-system-11 start = system start.args.dims.now start.args.starts.now start.args.rows.now start.args.values.now start.args.perm.now start.args.late.now start.args.tol
-
-abbrev the_places-10 : goal.In-Late → Places
-the_places-10 start = lent start.args.order.now start.args.parents.now start.args.l_starts.now start.args.l_rows.now start.args.l_offsets.now start.args.l_values.now start.args.diag.now start.args.d.now start.args.column.now start.args.inverse.now start.args.sizes.now start.args.count.now start.args.heads.now start.args.into.now start.args.stamps.now start.args.table.now start.args.upper.now start.args.bodies.now start.args.unit_starts.now start.args.d_starts.now start.args.places.now
-
-pub returns-in-Late : goal.returns-in-Late
-returns-in-Late c = tables_refused _ (the-system-11 c) (the_places-10 c) c.args.cache.now _ refl (sym (ap told_system c.in-Late.is) ∙ c.check_system-tables.ensures)
-
-abbrev the-system-12 : goal.In-Tolerance → System
-the-system-12 start = system start.args.dims.now start.args.starts.now start.args.rows.now start.args.values.now start.args.perm.now start.args.late.now start.args.tol
-
-abbrev the_places-11 : goal.In-Tolerance → Places
-the_places-11 start = lent start.args.order.now start.args.parents.now start.args.l_starts.now start.args.l_rows.now start.args.l_offsets.now start.args.l_values.now start.args.diag.now start.args.d.now start.args.column.now start.args.inverse.now start.args.sizes.now start.args.count.now start.args.heads.now start.args.into.now start.args.stamps.now start.args.table.now start.args.upper.now start.args.bodies.now start.args.unit_starts.now start.args.d_starts.now start.args.places.now
-
-pub returns-in-Tolerance : goal.returns-in-Tolerance
-returns-in-Tolerance c = tables_refused _ (the-system-12 c) (the_places-11 c) c.args.cache.now _ refl (sym (ap told_system c.in-Tolerance.is) ∙ c.check_system-tables.ensures)
+pub returns-in-Err : goal.returns-in-Err
+returns-in-Err c =
+    let x = c.args in
+    let a : System = system x.dims.now x.starts.now x.rows.now x.values.now x.perm.now x.late.now x.tol in
+    let b : Places = lent x.order.now x.parents.now x.l_starts.now x.l_rows.now x.l_offsets.now x.l_values.now x.diag.now x.d.now x.column.now x.inverse.now x.sizes.now x.count.now x.heads.now x.into.now x.stamps.now x.table.now x.upper.now x.bodies.now x.unit_starts.now x.d_starts.now x.places.now in
+    tables_refused _ a b x.cache.now _ c.of_tables.ensures.1 (c.of_tables.ensures.0 ∙ c.in-Err.ensures)

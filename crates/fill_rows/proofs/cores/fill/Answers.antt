@@ -2,16 +2,12 @@
 use Rattle.std.specs.Prelude.{ℕ, ◌+◌, ◌-◌, ◌<◌, length, get_or, take, drop, replicate}
 use mathlib.Core.Path.{refl, sym, ap, subst, ◌∙◌}
 use native.Mathlib.Omega.{arith}
-use borrow.Author.Rules.{rules}
 use lib.ListN.{length-set}
 use Rattle.buckets.proofs.Lists.{part_slice}
 use Rattle.fill_rows.proofs.Columns.{parents-good}
 use Rattle.fill_rows.proofs.Onward.{onward-parents, top_up}
 use Rattle.fill_rows.proofs.Pass.{heads-length, heads-whole, heads-rise, fill_begins, fill_asks, fill_turns, fill_ends}
 use Rattle.fill_rows.proofs.cores.fill.Goals as goal
-
-pub fill-requires : goal.fill-requires
-fill-requires c = search rules
 
 pub copy-requires : goal.copy-requires
 copy-requires c =
@@ -35,36 +31,6 @@ loop-j-init c =
       refl,
       refl,
     )
-
-pub offset_bounds-starts-j : goal.offset_bounds-starts-j
-offset_bounds-starts-j c = search rules
-
-pub bounds-starts-j : goal.bounds-starts-j
-bounds-starts-j c = search rules
-
-pub overflow_cast-from : goal.overflow_cast-from
-overflow_cast-from c = omega (arith, c.shared_slice_known-in-loop-j-1.given c.loop-j.j)
-
-pub overflow_add-to : goal.overflow_add-to
-overflow_add-to c = search rules
-
-pub offset_bounds-starts-j-in-loop-j : goal.offset_bounds-starts-j-in-loop-j
-offset_bounds-starts-j-in-loop-j c = search rules
-
-pub bounds-starts-j-in-loop-j : goal.bounds-starts-j-in-loop-j
-bounds-starts-j-in-loop-j c = search rules
-
-pub overflow_cast-to : goal.overflow_cast-to
-overflow_cast-to c = omega (arith, c.shared_slice_known-in-loop-j-2-1.given (c.loop-j.j + 1))
-
-pub overflow_cast-mark : goal.overflow_cast-mark
-overflow_cast-mark c = search rules
-
-pub overflow_add-mark : goal.overflow_add-mark
-overflow_add-mark c = search rules
-
-pub overflow_cast-j : goal.overflow_cast-j
-overflow_cast-j c = search rules
 
 pub top-at-requires : goal.top-at-requires
 top-at-requires c =
@@ -93,9 +59,6 @@ offset_bounds-stamp-at c = omega (arith, marked c)
 pub bounds-stamp-at : goal.bounds-stamp-at
 bounds-stamp-at c = omega (arith, marked c, c.loop-j.invariant.0.stamps)
 
-pub offset_bounds-rows-from : goal.offset_bounds-rows-from
-offset_bounds-rows-from c = omega (arith, c.shared_slice_known-in-loop-j-1.given c.loop-j.j)
-
 pub slice_bounds-store_climbs-count : goal.slice_bounds-store_climbs-count
 slice_bounds-store_climbs-count c = c.loop-j.invariant.0.tree.pattern.rising c.loop-j.j c.loop-j-test.true
 
@@ -104,9 +67,6 @@ slice_bounds-store_climbs-start c = c.loop-j.invariant.0.tree.pattern.rising c.l
 
 pub slice_bounds-store_climbs-end : goal.slice_bounds-store_climbs-end
 slice_bounds-store_climbs-end c = c.loop-j.invariant.0.tree.pattern.inside (c.loop-j.j + 1) (omega (arith, c.loop-j-test.true))
-
-pub overflow_cast-j-in-loop-j : goal.overflow_cast-j-in-loop-j
-overflow_cast-j-in-loop-j c = search rules
 
 pub store_climbs-requires : goal.store_climbs-requires
 store_climbs-requires c =
@@ -120,12 +80,6 @@ store_climbs-requires c =
     let onward = c.link.new.onward in
     let part = take (get_or starts (v.j + 1) 0 - get_or starts v.j 0) (drop (get_or starts v.j 0) rows) in
     let lent = part_slice rows (get_or starts v.j 0) (get_or starts (v.j + 1) 0) in record { parents = (onward-parents parent c.args.l_starts.now onward g.tree.pattern.few (parents-good starts rows (length parent) parent g.tree) g.on, omega (arith, taken, g.on.places), g.laid.small); stamp_len = (length-set v.stamp call.result (v.j + 1) ∙ g.stamps ∙ sym g.on.places, g.held.counts ∙ sym g.on.places); roomy = fill_asks starts rows (length parent) parent c.args.l_starts.now onward v.stamp v.next v.l_rows v.j g taken part lent call.result call.ensures }
-
-pub overflow_add-j : goal.overflow_add-j
-overflow_add-j c = search rules
-
-pub loop-j-smaller : goal.loop-j-smaller
-loop-j-smaller c = search rules
 
 pub loop-j-preserved : goal.loop-j-preserved
 loop-j-preserved c =
@@ -157,18 +111,6 @@ copy_columns-requires c =
       heads-rise starts rows (length parent) c.args.l_starts.now (length v.l_rows) g.laid,
       heads-whole starts rows (length parent) c.args.l_starts.now (length v.l_rows) g.laid,
     )
-
-pub shape_of-stamp : goal.shape_of-stamp
-shape_of-stamp c = c.loop-j.invariant.0.stamps ∙ sym c.requires.stamp_len.0
-
-pub shape_of-onward : goal.shape_of-onward
-shape_of-onward c = c.link.auto.onward
-
-pub shape_of-next : goal.shape_of-next
-shape_of-next c = c.loop-j.invariant.0.held.counts ∙ sym c.requires.stamp_len.2
-
-pub shape_of-l_rows : goal.shape_of-l_rows
-shape_of-l_rows c = c.copy_columns.auto.l_rows ∙ c.loop-j.invariant.2
 
 pub returns : goal.returns
 returns c =

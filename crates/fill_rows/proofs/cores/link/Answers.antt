@@ -1,6 +1,6 @@
 -- `fill_rows::cores::link` meets its contract. Assumes nothing.
 use Rattle.std.specs.Prelude.{◌-◌}
-use mathlib.Core.Path.{refl, sym, ◌∙◌}
+use mathlib.Core.Path.{refl}
 use native.Mathlib.Omega.{arith}
 use Rattle.reach.specs.Reach.{none}
 use Rattle.symbolic.proofs.Climbs.{goes-up}
@@ -10,23 +10,11 @@ use Rattle.fill_rows.proofs.cores.link.Goals as goal
 pub loop-k-init : goal.loop-k-init
 loop-k-init c = link-begins c.args.parent.now c.args.l_starts.now c.args.onward.now c.requires.2
 
-pub overflow_sub-k : goal.overflow_sub-k
-overflow_sub-k c = omega arith
-
-pub offset_bounds-parent-k : goal.offset_bounds-parent-k
-offset_bounds-parent-k c = omega (arith, c.loop-k.invariant.inside)
-
 pub bounds-parent-k : goal.bounds-parent-k
 bounds-parent-k c = omega (arith, c.loop-k.invariant.inside, c.loop-k-test.true)
 
-pub offset_bounds-onward-k : goal.offset_bounds-onward-k
-offset_bounds-onward-k c = omega (arith, c.loop-k.invariant.inside)
-
 pub bounds-onward-k : goal.bounds-onward-k
 bounds-onward-k c = omega (arith, c.loop-k.invariant.inside, c.loop-k.invariant.places, c.loop-k-test.true)
-
-pub loop-k-smaller-then-up : goal.loop-k-smaller-then-up
-loop-k-smaller-then-up c = omega (arith, c.loop-k-test.true)
 
 pub loop-k-preserved-then-up : goal.loop-k-preserved-then-up
 loop-k-preserved-then-up c =
@@ -42,22 +30,13 @@ top-requires c =
       v.invariant.places,
     )
 
-pub offset_bounds-onward-k-else-up : goal.offset_bounds-onward-k-else-up
-offset_bounds-onward-k-else-up c = omega (arith, c.loop-k.invariant.inside)
-
 pub bounds-onward-k-else-up : goal.bounds-onward-k-else-up
 bounds-onward-k-else-up c = omega (arith, c.loop-k.invariant.inside, c.loop-k.invariant.places, c.loop-k-test.true)
-
-pub loop-k-smaller : goal.loop-k-smaller
-loop-k-smaller c = omega (arith, c.loop-k-test.true)
 
 pub loop-k-preserved : goal.loop-k-preserved
 loop-k-preserved c =
     let v = c.loop-k in
     link-turns c.args.parent.now c.args.l_starts.now v.onward c.requires.0 v.k v.invariant (v.k - 1) (omega (arith, c.loop-k-test.true)) c.top.result (λ e. absurd (c.if-up.false e)) (λ e. c.top.ensures)
-
-pub shape_of-onward : goal.shape_of-onward
-shape_of-onward c = c.loop-k.invariant.places ∙ sym c.requires.2
 
 pub returns : goal.returns
 returns c = link-ends c.args.parent.now c.args.l_starts.now c.loop-k.onward c.loop-k.k c.loop-k.invariant c.loop-k-test.false

@@ -4,6 +4,3 @@ use Rattle.fill_rows.proofs.cores.link.Given as goal
 
 abbrev pub invariant-loop-k : goal.invariant-loop-k
 invariant-loop-k l = Linking l.parent l.l_starts l.onward l.k
-
-abbrev pub decreases-loop-k : goal.decreases-loop-k
-decreases-loop-k l = l.k

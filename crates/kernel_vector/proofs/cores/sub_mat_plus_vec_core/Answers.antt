@@ -1,7 +1,7 @@
 -- `kernel_vector::cores::sub_mat_plus_vec_core` meets its contract: the invariant: how far the loop of the definition is. Assumes nothing.
 use borrow.Author.Rules.{rules}
 use Rattle.scalar.proofs.Laws.{steps_next, kernels}
-use Rattle.kernel_vector.specs.Vector.{row_sum, sub_mat_plus_vec}
+use Rattle.kernel_vector.specs.Vector.{sub_mat_plus_vec}
 use Rattle.kernel_vector.proofs.cores.sub_mat_plus_vec_core.Goals as goal
 
 pub loop-r-preserved : goal.loop-r-preserved

@@ -1,7 +1,7 @@
 -- `kernel_vector_transpose::cores::sub_mat_transpose_plus_vec_core` meets its contract: the invariant: how far the loop of the definition is. Assumes nothing.
 use borrow.Author.Rules.{rules}
 use Rattle.scalar.proofs.Laws.{steps_next, kernels}
-use Rattle.kernel_vector_transpose.specs.VectorTranspose.{column_sum, sub_mat_transpose_plus_vec}
+use Rattle.kernel_vector_transpose.specs.VectorTranspose.{sub_mat_transpose_plus_vec}
 use Rattle.kernel_vector_transpose.proofs.cores.sub_mat_transpose_plus_vec_core.Goals as goal
 
 pub loop-c-preserved : goal.loop-c-preserved

@@ -25,10 +25,6 @@ loop-k-preserved c =
     let sizes = c.args.sizes.now in
     filled_more (squares sizes) v.out v.k v.invariant 0 (get_or sizes v.k 0 * get_or sizes v.k 0) (omega (arith, length-squares sizes)) (squares-at sizes v.k)
 
-pub shape_of-out : goal.shape_of-out
-shape_of-out c =
-    c.loop-k.invariant.long ∙ length-squares c.args.sizes.now ∙ sym c.requires.out_len
-
 pub returns : goal.returns
 returns c =
     let v = c.loop-k in

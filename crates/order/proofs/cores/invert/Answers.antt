@@ -6,12 +6,6 @@ use lib.ListN.{length-set}
 use Rattle.order.proofs.Laws.{below_at, inverse-turn, inverse-of}
 use Rattle.order.proofs.cores.invert.Goals as goal
 
-pub overflow_cast-old : goal.overflow_cast-old
-overflow_cast-old c = omega (arith, c.shared_slice_known-1.given c.loop-k.k)
-
-pub offset_bounds-inverse-old : goal.offset_bounds-inverse-old
-offset_bounds-inverse-old c = omega (arith, c.shared_slice_known-1.given c.loop-k.k)
-
 pub bounds-inverse-old : goal.bounds-inverse-old
 bounds-inverse-old c =
     let v = c.loop-k in

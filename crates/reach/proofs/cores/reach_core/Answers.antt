@@ -1,17 +1,8 @@
 -- `reach::cores::reach_core` meets its contract: what `advance` and `scan` ensure, put together.
 -- Assumes nothing.
-use Rattle.std.proofs.Common.{◌≡◌, ℕ, ◌+◌, List, ◌++◌, length, take, set, sym, ap, ◌∙◌, length-set, rules}
+use Rattle.std.proofs.Common.{◌≡◌, ℕ, ◌+◌, List, ◌++◌, length, take, set, sym, ap, ◌∙◌, length-set}
 use Rattle.reach.specs.Reach.{State, mark_of, reached, reach_of}
 use Rattle.reach.proofs.cores.reach_core.Goals as goal
-
-pub advance-next-requires : goal.advance-next-requires
-advance-next-requires c = search rules
-
-pub offset_bounds-stamp-j : goal.offset_bounds-stamp-j
-offset_bounds-stamp-j c = search rules
-
-pub bounds-stamp-j : goal.bounds-stamp-j
-bounds-stamp-j c = search rules
 
 pub scan-top-requires : goal.scan-top-requires
 scan-top-requires c =
@@ -20,9 +11,6 @@ scan-top-requires c =
 pub shape_of-stamp : goal.shape_of-stamp
 shape_of-stamp c =
     c.scan-top.auto.stamp ∙ length-set c.advance-next.new.stamp c.args.j c.advance-next.result ∙ c.advance-next.auto.stamp
-
-pub shape_of-out : goal.shape_of-out
-shape_of-out c = search rules
 
 pub returns : goal.returns
 returns c =

@@ -1,6 +1,5 @@
 -- `reach::cores::scan` meets its contract. The invariants are the records of `Turns`, and each answer names the law for its way through the code.
 -- Assumes nothing.
-use Rattle.std.proofs.Common.{◌-◌, length}
 use Rattle.reach.proofs.Turns.{Climbing, Scanning}
 use Rattle.reach.proofs.cores.scan.Given as goal
 
@@ -10,8 +9,5 @@ invariant-climb l = Climbing l.parent l.mark l.initial.stamp l.initial.out l.ini
 abbrev pub decreases-climb : goal.decreases-climb
 decreases-climb l = l.top
 
-abbrev pub invariant-loop-q : goal.invariant-loop-q
-invariant-loop-q l = Scanning l.parent l.rows l.j l.mark l.initial.stamp l.initial.out l.stamp l.out l.top l.q
-
-abbrev pub decreases-loop-q : goal.decreases-loop-q
-decreases-loop-q l = length l.rows - l.q
+abbrev pub invariant-loop-row : goal.invariant-loop-row
+invariant-loop-row l = Scanning l.parent l.rows l.j l.mark l.initial.stamp l.initial.out l.stamp l.out l.top l.row-index

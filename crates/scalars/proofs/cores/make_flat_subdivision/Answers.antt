@@ -1,12 +1,7 @@
 -- `scalars::cores::make_flat_subdivision` meets its contract. Assumes nothing.
 use mathlib.Core.Path.{◌∙◌}
-use native.Mathlib.Omega.{arith}
 use Rattle.scalars.proofs.ScalarLaws.{starts-are}
 use Rattle.scalars.proofs.cores.make_flat_subdivision.Goals as goal
-
-pub sums-requires : goal.sums-requires
-sums-requires c =
-    record { sizes_len_bound = c.requires.sizes_len_bound; by_index = λ k h. let q = c.requires.by_index k h in omega arith }
 
 pub returns : goal.returns
 returns c =

@@ -10,8 +10,5 @@ invariant-climb l = CountClimb l.parent l.sizes l.mark l.initial.stamp l.initial
 abbrev pub decreases-climb : goal.decreases-climb
 decreases-climb l = length l.parent - l.at
 
-abbrev pub invariant-loop-q : goal.invariant-loop-q
-invariant-loop-q l = (found : List ℕ) × Scanning l.parent l.rows l.j l.mark l.initial.stamp l.q l.stamp found × Counted l.sizes l.initial.count found l.count l.total
-
-abbrev pub decreases-loop-q : goal.decreases-loop-q
-decreases-loop-q l = length l.rows - l.q
+abbrev pub invariant-loop-i : goal.invariant-loop-i
+invariant-loop-i l = (found : List ℕ) × Scanning l.parent l.rows l.j l.mark l.initial.stamp l.i-index l.stamp found × Counted l.sizes l.initial.count found l.count l.total

@@ -21,15 +21,6 @@ loop-j-init c =
       number_begins c.args.starts.now c.args.rows.now n c.args.sizes.now,
     )
 
-pub overflow_cast-from : goal.overflow_cast-from
-overflow_cast-from c = omega (arith, c.shared_slice_known-in-loop-j-1.given c.loop-j.j)
-
-pub overflow_cast-to : goal.overflow_cast-to
-overflow_cast-to c = omega (arith, c.shared_slice_known-in-loop-j-2-1.given (c.loop-j.j + 1))
-
-pub offset_bounds-rows-from : goal.offset_bounds-rows-from
-offset_bounds-rows-from c = omega (arith, c.shared_slice_known-in-loop-j-1.given c.loop-j.j)
-
 pub slice_bounds-count_climbs-count : goal.slice_bounds-count_climbs-count
 slice_bounds-count_climbs-count c = c.loop-j.invariant.0.tree.pattern.rising c.loop-j.j c.loop-j-test.true
 

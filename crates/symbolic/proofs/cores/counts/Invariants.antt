@@ -1,10 +1,7 @@
 -- `symbolic::cores::counts` meets its contract: the counts are the lengths of the columns made so far, the sum the numbers of the rows done. Assumes nothing.
-use Rattle.std.specs.Prelude.{◌≡◌, ◌-◌, length}
+use Rattle.std.specs.Prelude.{◌≡◌, length}
 use Rattle.symbolic.proofs.Passes.{Counting, Numbering}
 use Rattle.symbolic.proofs.cores.counts.Given as goal
 
 abbrev pub invariant-loop-j : goal.invariant-loop-j
 invariant-loop-j l = Counting l.starts l.rows (length l.parent) l.parent l.stamp l.count l.j × (l.n ≡ length l.parent) × Numbering l.starts l.rows (length l.parent) l.sizes l.numbers l.j
-
-abbrev pub decreases-loop-j : goal.decreases-loop-j
-decreases-loop-j l = l.n - l.j

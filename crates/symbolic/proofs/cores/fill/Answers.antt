@@ -1,6 +1,6 @@
 -- `symbolic::cores::fill` meets its contract: the table holds the columns made so far. Assumes nothing.
 use Rattle.std.specs.Prelude.{ℕ, ◌+◌, ◌-◌, length, get_or, take, drop, replicate}
-use mathlib.Core.Path.{refl, sym, ap, ◌∙◌}
+use mathlib.Core.Path.{refl, ap, ◌∙◌}
 use native.Mathlib.Omega.{arith}
 use lib.ListN.{length-set}
 use Rattle.graph.proofs.SymbolicLaws.{columns_length}
@@ -25,15 +25,6 @@ loop-j-init c =
       refl,
       refl,
     )
-
-pub overflow_cast-from : goal.overflow_cast-from
-overflow_cast-from c = omega (arith, c.shared_slice_known-in-loop-j-1.given c.loop-j.j)
-
-pub overflow_cast-to : goal.overflow_cast-to
-overflow_cast-to c = omega (arith, c.shared_slice_known-in-loop-j-2-1.given (c.loop-j.j + 1))
-
-pub offset_bounds-rows-from : goal.offset_bounds-rows-from
-offset_bounds-rows-from c = omega (arith, c.shared_slice_known-in-loop-j-1.given c.loop-j.j)
 
 pub slice_bounds-store_climbs-count : goal.slice_bounds-store_climbs-count
 slice_bounds-store_climbs-count c = c.loop-j.invariant.0.tree.pattern.rising c.loop-j.j c.loop-j-test.true
@@ -71,15 +62,6 @@ loop-j-preserved c =
       refl,
       call.auto.table ∙ v.invariant.2,
     )
-
-pub shape_of-stamp : goal.shape_of-stamp
-shape_of-stamp c = c.loop-j.invariant.0.stamps ∙ sym c.requires.stamp_len.0
-
-pub shape_of-next : goal.shape_of-next
-shape_of-next c = c.loop-j.invariant.0.held.counts ∙ sym c.requires.stamp_len.2
-
-pub shape_of-l_rows : goal.shape_of-l_rows
-shape_of-l_rows c = c.loop-j.invariant.2
 
 pub returns : goal.returns
 returns c =

@@ -7,15 +7,6 @@ use Rattle.buckets.proofs.Lists.{part_slice}
 use Rattle.symbolic.proofs.Walks.{tree-rule, walk_ends}
 use Rattle.symbolic.proofs.cores.walk.Goals as goal
 
-pub overflow_cast-from : goal.overflow_cast-from
-overflow_cast-from c = omega (arith, c.shared_slice_known-4-1.given c.args.j)
-
-pub overflow_cast-to : goal.overflow_cast-to
-overflow_cast-to c = omega (arith, c.shared_slice_known-5-1.given (c.args.j + 1))
-
-pub offset_bounds-rows-from : goal.offset_bounds-rows-from
-offset_bounds-rows-from c = omega (arith, c.shared_slice_known-4-1.given c.args.j)
-
 pub slice_bounds-scan-count : goal.slice_bounds-scan-count
 slice_bounds-scan-count c = c.requires.tree.0.pattern.rising c.args.j c.requires.tree.1
 

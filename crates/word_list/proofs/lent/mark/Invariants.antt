@@ -1,12 +1,6 @@
--- `word_list::lent::mark` meets its contract: the places passed hold their marks. Assumes nothing.
-use Prim.Native.Nat.{ℕ, ◌≤◌, ◌<◌, ◌-◌}
-use mathlib.Core.Path.{◌≡◌}
-use lib.ListN.{length, get_or}
-use Rattle.word_list.specs.Lent.{mark_at}
+-- The loop of `word_list::lent::mark`: the places passed hold their marks. Assumes nothing.
+use Rattle.std.specs.Prelude.{◌≡◌, ℕ, ◌<◌, slice_get, Some}
 use Rattle.word_list.proofs.lent.mark.Given as goal
 
 abbrev pub invariant-loop-k : goal.invariant-loop-k
-invariant-loop-k l = (l.k ≤ l.k-end) × (l.k-end ≡ length l.initial.out) × (length l.out ≡ length l.initial.out) × ((j : ℕ) → j < l.k → get_or l.out j 0 ≡ mark_at j)
-
-abbrev pub decreases-loop-k : goal.decreases-loop-k
-decreases-loop-k l = l.k-end - l.k
+invariant-loop-k g l = (k : ℕ) → k < l.k → slice_get l.out k ≡ Some (g.E.Entry.marks k)

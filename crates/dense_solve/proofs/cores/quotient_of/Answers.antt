@@ -1,9 +1,0 @@
--- `dense_solve::cores::quotient_of` meets its contract: by cases. Assumes nothing.
-
-use Rattle.dense_solve.proofs.cores.quotient_of.Goals as goal
-
-pub returns-then-d : goal.returns-then-d
-returns-then-d c = rw c.if-d.true
-
-pub returns-else-d : goal.returns-else-d
-returns-else-d c = rw c.if-d.false

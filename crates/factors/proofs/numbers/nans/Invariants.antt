@@ -1,9 +1,0 @@
--- `factors::numbers::nans` is safe and ends: it counts up to `upto`, which is no more than the places. Assumes nothing.
-use Prim.Native.Nat.{◌≤◌, ◌-◌}
-use Rattle.factors.proofs.numbers.nans.Given as goal
-
-abbrev pub invariant-loop-k : goal.invariant-loop-k
-invariant-loop-k l = l.k ≤ l.upto
-
-abbrev pub decreases-loop-k : goal.decreases-loop-k
-decreases-loop-k l = l.upto - l.k

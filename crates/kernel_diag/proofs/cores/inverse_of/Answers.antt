@@ -1,9 +1,0 @@
--- `kernel_diag::cores::inverse_of` meets its contract: by cases. Assumes nothing.
-
-use Rattle.kernel_diag.proofs.cores.inverse_of.Goals as goal
-
-pub returns-then-d : goal.returns-then-d
-returns-then-d c = rw c.if-d.true
-
-pub returns-else-d : goal.returns-else-d
-returns-else-d c = rw c.if-d.false

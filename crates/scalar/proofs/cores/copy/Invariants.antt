@@ -1,9 +1,0 @@
--- `scalar::cores::copy` meets its contract: the first t numbers are copied. Assumes nothing.
-use Rattle.std.specs.Prelude.{◌≡◌, ◌-◌, ◌≤◌, length, take}
-use Rattle.scalar.proofs.cores.copy.Given as goal
-
-abbrev pub invariant-loop-t : goal.invariant-loop-t
-invariant-loop-t l = (l.t-end ≡ length l.from) × (l.t ≤ length l.from) × (length l.to ≡ length l.from) × (take l.t l.to ≡ take l.t l.from)
-
-abbrev pub decreases-loop-t : goal.decreases-loop-t
-decreases-loop-t l = length l.from - l.t
