@@ -1,7 +1,8 @@
 // The cases of a list, one after the other, and what came of them.
-ghost use Rattle.std.specs.Prelude.{◌≡◌, ◌≤◌, List, IfOk, IfErr, cond, Ok, Some, None};
+ghost use Rattle.std.specs.Prelude.{◌≡◌, ◌+◌, ◌⊎◌, List, length, IfOk, IfErr, cond, Ok, Err, Some, None};
 ghost use Rattle.std.specs.List.{FoldsTo};
 ghost use Rattle.word_list.specs.declared.cases.Case.{Case};
+ghost use Rattle.word_list.specs.declared.cases.BadList.{BadList};
 ghost use Rattle.word_list.specs.Cases.{tallied};
 
 use crate::tally::{Count, Tally};
@@ -41,7 +42,7 @@ where
     requires next { C.IsAlwaysCallable next }
     requires wrong { W.IsAlwaysCallable wrong }
     ensures counts { IfOk result (λ tally. (cases : List Case) × (last : C) × FoldsTo (λ p x q. C.step p (Ok (Some x)) q) next cases last × ((end : C) × C.step last (Ok None) end) × (tally.counts ≡ tallied N cases)) }
-    ensures bad { IfErr result (λ k. k ≤ most) }
+    ensures bad { IfErr result (λ at. (cases : List Case) × (last : C) × FoldsTo (λ p x q. C.step p (Ok (Some x)) q) next cases last × (((at ≡ length cases + 1) × (e : BadList) × (end : C) × C.step last (Err e) end) ⊎ ((at ≡ most) × (length cases ≡ most)))) }
 {
     let mut tally = Tally::new();
     for k in 0..most {

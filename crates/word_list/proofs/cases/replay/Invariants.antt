@@ -1,5 +1,5 @@
--- The loop of `word_list::cases::replay`: the counts are those of the cases told so far. Assumes nothing.
-use Rattle.std.proofs.Common.{◌≡◌, List, Ok, Some}
+-- The loop of `word_list::cases::replay`: so many cases are told so far as turns were taken, and the counts are theirs. Assumes nothing.
+use Rattle.std.proofs.Common.{◌≡◌, List, length, Ok, Some}
 use Rattle.std.specs.List.{FoldsTo}
 use Rattle.word_list.specs.declared.cases.Case.{Case}
 use Rattle.word_list.specs.Cases.{tallied}
@@ -10,5 +10,5 @@ invariant-loop-k g l =
     record {
       next : goal.C-IsAlwaysCallable g l.next;
       wrong : goal.W-IsAlwaysCallable g l.wrong;
-      counts : (cases : List Case) × FoldsTo (λ p x q. goal.C-step g p (Ok (Some x)) q) l.fn.next cases l.next × (l.tally.counts ≡ tallied g.row.N cases);
+      counts : (cases : List Case) × FoldsTo (λ p x q. goal.C-step g p (Ok (Some x)) q) l.fn.next cases l.next × (l.tally.counts ≡ tallied g.row.N cases) × (length cases ≡ l.k);
     }
