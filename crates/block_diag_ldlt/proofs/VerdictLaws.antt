@@ -8,9 +8,11 @@ use Rattle.refusal.specs.declared.ShapeError.TheVariants as shape
 use Rattle.refusal.specs.Shaped as shaped
 use Rattle.refusal.proofs.Laws.{after_done}
 use Rattle.dense_pivots.specs.declared.LdltResult.{LdltResult}
+use Rattle.block_diag_ldlt.specs.declared.cores.BlockError.{BlockError}
+use Rattle.block_diag_ldlt.specs.declared.cores.BlockError.TheVariants as block
 use Rattle.block_diag_ldlt.specs.declared.DecomposeError.{DecomposeError}
 use Rattle.block_diag_ldlt.specs.declared.DecomposeError.TheVariants.{Dimension, Tolerance, Mismatch, NotFinite, Poor}
-use Rattle.block_diag_ldlt.specs.Block.{told, told_error, told_checks, of_shape, decompose_verdict, block_ldlt, told_settled, decomposed}
+use Rattle.block_diag_ldlt.specs.Block.{told, told_error, told_checks, of_shape, of_block, decompose_verdict, block_ldlt, told_settled, decomposed}
 
 -- ---- one check after the other, each by `?`
 
@@ -34,10 +36,15 @@ after_error (Poor condition) next = refl
 
 pub ruleset in_order = (of_shape-told, after_error, after_done)
 
--- what `?` hands back is told as its error
-pub err-told : (s : Result LdltResult DecomposeError) (e : DecomposeError) → IsErrAnd s (λ x. x ≡ e) → told s ≡ told_error e
-err-told (Ok k) e h = absurd h
-err-told (Err x) e h = ap told_error h
+-- what `?` hands back is its error
+pub err-is : {A E : Type 0} (s : Result A E) (e : E) → IsErrAnd s (λ x. x ≡ e) → s ≡ Err e
+err-is (Ok a) e h = absurd h
+err-is (Err x) e h = ap Err h
+
+-- a refused block, its factor and d are told as the core's answer is
+pub block-told : (e : BlockError) (l d : List Float) → (told_error (of_block e), l, d) ≡ told_settled (Err e, l, d)
+block-told (block.NotFinite place pivot) l d = refl
+block-told (block.Poor condition) l d = refl
 
 -- the number of an answer is that of what it tells
 pub number-told : (r : Result LdltResult DecomposeError) → number_by told_error r ≡ number (told r)

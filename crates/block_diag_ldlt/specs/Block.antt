@@ -12,8 +12,8 @@ use Rattle.dense_pivots.specs.declared.Definiteness.{Definiteness}
 use Rattle.dense_pivots.specs.declared.Definiteness.TheVariants.{PositiveDefinite, PositiveSemiDefinite, Indefinite}
 use Rattle.dense_pivots.specs.declared.LdltResult.{LdltResult}
 use Rattle.dense_ldlt.specs.declared.cores.NotFinite as cores
-use Rattle.block_diag_ldlt.specs.declared.cores.Settled.{Settled}
-use Rattle.block_diag_ldlt.specs.declared.cores.Settled.TheVariants as settled
+use Rattle.block_diag_ldlt.specs.declared.cores.BlockError.{BlockError}
+use Rattle.block_diag_ldlt.specs.declared.cores.BlockError.TheVariants as block
 use Rattle.refusal.specs.declared.ShapeError.{ShapeError}
 use Rattle.refusal.specs.declared.ShapeError.TheVariants as shape
 use Rattle.block_diag_ldlt.specs.declared.DecomposeError.{DecomposeError}
@@ -39,6 +39,14 @@ abbrev pub of_shape : ShapeError → DecomposeError
 of_shape (shape.Dimension place) = Dimension place
 of_shape (shape.Mismatch place) = Mismatch place
 
+-- a refusal of the decomposition of a block, and of its pivots
+abbrev pub of_block : BlockError → DecomposeError
+of_block (block.NotFinite place pivot) = NotFinite place pivot
+of_block (block.Poor condition) = Poor condition
+
+abbrev pub of_pivot : cores.NotFinite → BlockError
+of_pivot e = block.NotFinite e.place e.pivot
+
 -- the number 1e-10
 abbrev pub threshold : Float
 threshold = from_bits binary64 0x3ddb_7cdf_d9d7_bdbb
@@ -53,12 +61,12 @@ abbrev pub is_poor : LdltResult → Bool
 is_poor r = poor_at r.definiteness r.pivot_condition
 
 -- how the decomposition of n rows settles, the factor and d: spoilt where the block is poor
-abbrev pub settle : ℕ → Result LdltResult cores.NotFinite × List Float × List Float → Settled × List Float × List Float
-settle n (Ok r, l, d) = cond (is_poor r) (settled.Poor r.pivot_condition, nans (n * n), nans n) (settled.Accepted r, l, d)
-settle n (Err e, l, d) = (settled.NotFinite e.place e.pivot, l, d)
+abbrev pub settle : ℕ → Result LdltResult cores.NotFinite × List Float × List Float → Result LdltResult BlockError × List Float × List Float
+settle n (Ok r, l, d) = cond (is_poor r) (Err (block.Poor r.pivot_condition), nans (n * n), nans n) (Ok r, l, d)
+settle n (Err e, l, d) = (Err (of_pivot e), l, d)
 
 -- the answer, the factor and d: after 13 and 14 NaNs in full
-unfoldable pub block_ldlt : ℕ → Float → List Float → Settled × List Float × List Float
+unfoldable pub block_ldlt : ℕ → Float → List Float → Result LdltResult BlockError × List Float × List Float
 block_ldlt n tol a = settle n (ldlt n tol a)
 
 -- ---- for any arguments
@@ -68,10 +76,10 @@ unfoldable pub decompose_verdict : ℕ → Float → (a l d : ℕ) → Told
 decompose_verdict n tol a l d = verdict (size_check 1 0 n ∷ tolerance_check tol ∷ area_check 0 n n a ∷ area_check 1 n n l ∷ area_check 2 n 1 d ∷ [])
 
 -- what the core answers, in document 01's number and values
-abbrev pub told_settled : Settled × List Float × List Float → Told × List Float × List Float
-told_settled (settled.Accepted r, l, d) = (told_result r, l, d)
-told_settled (settled.NotFinite place pivot, l, d) = (pivot_not_finite 0 place pivot, l, d)
-told_settled (settled.Poor condition, l, d) = (poorly_conditioned 0 condition, l, d)
+abbrev pub told_settled : Result LdltResult BlockError × List Float × List Float → Told × List Float × List Float
+told_settled (Ok r, l, d) = (told_result r, l, d)
+told_settled (Err (block.NotFinite place pivot), l, d) = (pivot_not_finite 0 place pivot, l, d)
+told_settled (Err (block.Poor condition), l, d) = (poorly_conditioned 0 condition, l, d)
 
 -- the answer, the factor and d
 unfoldable pub decomposed : ℕ → (a l d : List Float) → Float → Told × List Float × List Float

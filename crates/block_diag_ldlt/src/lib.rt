@@ -4,9 +4,9 @@
 pub mod cores;
 
 ghost use Rattle.std.specs.Prelude.{◌≡◌, ◌≤◌, ◌*◌, OnOk};
-ghost use Rattle.block_diag_ldlt.specs.Block.{told, told_error, told_checks, of_shape, decompose_verdict, decomposed};
+ghost use Rattle.block_diag_ldlt.specs.Block.{told, told_error, told_checks, of_shape, of_block, decompose_verdict, decomposed};
 
-use crate::cores::{Settled, decompose_core};
+use crate::cores::{BlockError, decompose_core};
 use dense_pivots::LdltResult;
 use refusal::{Refusal, ShapeError, area, size};
 use scalar::is_tolerance;
@@ -40,6 +40,7 @@ impl Refusal for DecomposeError {
     }
 }
 
+// Kept: its cases are those of another error, which carries the same.
 impl From<ShapeError> for DecomposeError {
     ghost from_gives = { λ e r. r ≡ of_shape e };
 
@@ -47,6 +48,17 @@ impl From<ShapeError> for DecomposeError {
         match e {
             ShapeError::Dimension { place } => DecomposeError::Dimension { place },
             ShapeError::Mismatch { place } => DecomposeError::Mismatch { place },
+        }
+    }
+}
+
+impl From<BlockError> for DecomposeError {
+    ghost from_gives = { λ e r. r ≡ of_block e };
+
+    fn from(e: BlockError) -> DecomposeError {
+        match e {
+            BlockError::NotFinite { place, pivot } => DecomposeError::NotFinite { place, pivot },
+            BlockError::Poor { condition } => DecomposeError::Poor { condition },
         }
     }
 }
@@ -63,12 +75,8 @@ pub fn decompose(
     ensures { (told result, mat_l.new, d.new) ≡ decomposed n mat_a.now mat_l.old d.old tol_rel }
 {
     decompose_shapes(n, tol_rel, mat_a.len(), mat_l.len(), d.len())?;
-    let r = decompose_core(n, mat_a, mat_l, d, tol_rel);
-    match r {
-        Settled::Accepted(k) => Ok(k),
-        Settled::NotFinite { place, pivot } => Err(DecomposeError::NotFinite { place, pivot }),
-        Settled::Poor { condition } => Err(DecomposeError::Poor { condition }),
-    }
+    let r = decompose_core(n, mat_a, mat_l, d, tol_rel)?;
+    Ok(r)
 }
 
 // The checks of a decomposition.

@@ -1,13 +1,13 @@
 // The searches over the row table, whose columns the starts give, that the checks of tables are made of. How one is made:
 //   NAME_ok      one place: its test in `Verdict` of tables
 //   first_NAME   the first place at which the test of its column fails, if there is one
-ghost use Rattle.std.specs.Prelude.{◌≡◌, ℕ, Bool, ◌+◌, ◌<◌, ◌≤◌, length};
+ghost use Rattle.std.specs.Prelude.{◌≡◌, ℕ, Bool, Option, ◌+◌, ◌<◌, ◌≤◌, length};
 ghost use Rattle.tables.specs.Search.{fault, sum};
 ghost use Rattle.tables.specs.Verdict.{at, column_of, row_ok, row_fits, order_ok, order_fits, block_area, areas};
 ghost use Rattle.tables.specs.Sound.{Sizes, Ordered, Measured};
 ghost use Rattle.columns.specs.Least.{least_row};
 
-use tables::cores::wide;
+use tables::cores::{first_fault, wide};
 
 // What the least row of column j is: j in A, j + 1 in a factor, 0 in an upper pattern.
 #[derive(Clone, Copy)]
@@ -38,23 +38,20 @@ pub fn row_ok(rows: &[u32], n: usize, from: usize, p: usize) -> bool
     from <= x && x < n
 }
 
-// The first place in the columns at which the test of its column fails: the test is told the column, its start and the place.
-pub fn first_in_columns<P: Fn(usize, usize, usize) -> bool>(
+// The first place in the columns at which the test of its column fails: the search of one column is told the column, its start and its end.
+pub fn first_in_columns<P: Fn(usize, usize, usize) -> Option<usize>>(
     starts: &[u32],
     n: usize,
-    passes: P,
+    first: P,
 ) -> Option<usize>
     requires entries { length starts.now ≡ n + 1 }
-    requires asks { (j p : ℕ) → j < n → at starts.now j ≤ p → p < at starts.now (j + 1) → P.pre passes j (at starts.now j) p }
-    ensures { (m : ℕ) (test : ℕ → ℕ → Bool) → Ordered starts.now n m → ((j p : ℕ) (b : Bool) → j < n → at starts.now j ≤ p → p < at starts.now (j + 1) → P.post passes j (at starts.now j) p b → b ≡ test j p) → result ≡ fault (λ p. test (column_of starts.now n p) p) 0 m }
+    requires asks { (j : ℕ) → j < n → P.pre first j (at starts.now j) (at starts.now (j + 1)) }
+    ensures { (m : ℕ) (test : ℕ → ℕ → Bool) → Ordered starts.now n m → ((j : ℕ) (r : Option ℕ) → j < n → P.post first j (at starts.now j) (at starts.now (j + 1)) r → r ≡ fault (test j) (at starts.now j) (at starts.now (j + 1))) → result ≡ fault (λ p. test (column_of starts.now n p) p) 0 m }
 {
     for j in 0..n {
-        let lo = wide(starts[j]);
-        let hi = wide(starts[j + 1]);
-        for p in lo..hi {
-            if !passes(j, lo, p) {
-                return Some(p);
-            }
+        let found = first(j, wide(starts[j]), wide(starts[j + 1]));
+        if found.is_some() {
+            return found;
         }
     }
     None
@@ -65,11 +62,10 @@ pub fn first_row(starts: &[u32], rows: &[u32], n: usize, least: Least) -> Option
     requires { (n ≤ 4096) × Ordered starts.now n (length rows.now) }
     ensures { result ≡ fault (row_fits (least_row least) starts.now rows.now n) 0 (length rows.now) }
 {
-    first_in_columns(
-        starts,
-        n,
-        |j, _lo, p| row_ok(rows, n, least_row(least, j), p),
-    )
+    first_in_columns(starts, n, |j, lo, hi| {
+        let from = least_row(least, j);
+        first_fault(lo, hi, |p| row_ok(rows, n, from, p))
+    })
 }
 
 // The row at place p is the first of its column, which starts at lo, or above the one before.
@@ -85,7 +81,11 @@ pub fn first_fall(starts: &[u32], rows: &[u32], n: usize) -> Option<usize>
     requires { Ordered starts.now n (length rows.now) }
     ensures { result ≡ fault (order_fits starts.now rows.now n) 0 (length rows.now) }
 {
-    first_in_columns(starts, n, |_j, lo, p| order_ok(rows, lo, p))
+    first_in_columns(
+        starts,
+        n,
+        |_j, lo, hi| first_fault(lo, hi, |p| order_ok(rows, lo, p)),
+    )
 }
 
 // The area of the block at place p, in a column that is d wide.

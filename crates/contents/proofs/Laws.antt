@@ -1,13 +1,13 @@
 -- The laws of a sheet's contents.
---     columns-stop, columns-go, columns-pass   what 3 says where its search fails, and where it ends
---     offsets-stop, offsets-go, offsets-pass   the same of 15 for the offsets
+--     columns-stop, columns-go, columns-pass   what 3 says where its search finds a place, and where it finds none
+--     offsets-stop, offsets-go                  the same of 15 for the offsets
 --     sorted_of                                 columns that pass do not fall and are below n
 --     length-starts, starts-at, starts-filled   the starts: how many, the entries, and a list with those entries
 --     starts-ordered, starts-done               the starts of columns below n pass 3 of document 01's tables
 --     column-of                                 the column of a place, read by the starts, is the entry's own
 --     start-from, area-is, area_small, offset-hits, offset-misses   what the loops that fill the starts and search the offsets go by
 -- Assumes nothing.
-use Rattle.std.specs.Prelude.{◌≡◌, ℕ, zero, suc, ◌+◌, ◌-◌, ◌*◌, ◌<◌, ◌≤◌, Bool, true, false, cond, ◌||◌, eqb, ltb, leb, ◌⊎◌, List, map, length, get_or}
+use Rattle.std.specs.Prelude.{◌≡◌, ℕ, zero, suc, ◌+◌, ◌-◌, ◌*◌, ◌<◌, ◌≤◌, Bool, true, false, cond, ◌||◌, eqb, ltb, leb, ◌⊎◌, List, map, length, get_or, Some, None}
 use Prim.Native.Nat.{zero-le}
 use mathlib.Core.Logic.{inl, inr, ⊎_elim}
 use mathlib.Core.Path.{refl, sym, ap, ◌∙◌}
@@ -17,36 +17,20 @@ use borrow.Author.Tests.{lt-ltb, le-ltb, le-leb, lt-leb, eq-eqb, ne_eqb, ltb-tru
 use lib.ListN.{length-map, get_or-map}
 use lib.Seq.{ext_get_or}
 use Rattle.graph.specs.Sets.{from}
-use Rattle.refusal.specs.Refusal.{Told, done, refuses, bad_starts, bad_sheet}
+use Rattle.refusal.specs.Refusal.{done, refuses, bad_starts, bad_sheet}
 use Rattle.buckets.proofs.Lists.{get_or_any}
 use Rattle.order.proofs.Laws.{length_from, get_or-from}
-use Rattle.tables.specs.Search.{first, first_from}
-use Rattle.tables.specs.Verdict.{at, fault_in, rises_at, start_ok, starts_check, column_of, block_area, area_at}
+use Rattle.tables.specs.Search.{first, first_from, fault}
+use Rattle.tables.specs.Verdict.{at, rises_at, start_ok, starts_check, column_of, block_area, area_at}
 use Rattle.tables.specs.Sound.{Ordered}
 use Rattle.tables.proofs.Bools.{and_left, and_right}
-use Rattle.tables.proofs.SearchLaws.{lt-or-ge, first-before, first-fails, first-none, first_past, first-end}
+use Rattle.tables.proofs.SearchLaws.{lt-or-ge, first-before, first-fails, first_past}
 use Rattle.tables.proofs.ColumnLaws.{column-is}
 use Rattle.tables.proofs.AreaLaws.{area-le}
-use Rattle.tables.proofs.CheckLaws.{starts-go}
+use Rattle.tables.proofs.CheckLaws.{fault-stop, fault-go, fault-pass, starts-go}
 use Rattle.tables.proofs.FaultLaws as faults
 use Rattle.scalars.specs.Bodies.{offset_at}
 use Rattle.contents.specs.Contents.{column_fits, columns_check, before, start_at, starts_from, offset_fits, offsets_check, Sorted, Placed}
-
--- ---- a search whose answer is k
-
-module _ (ok : ℕ → Bool) (end : ℕ) (refusal : ℕ → Told) where
-  fault-at : (k : ℕ) → k ≡ first ok 0 end → k < end → fault_in ok end refusal ≡ refusal k
-  fault-at k e h = rw (← e, lt-ltb k end h)
-
-  fault-none : (k : ℕ) → k ≡ first ok 0 end → end ≤ k → fault_in ok end refusal ≡ done
-  fault-none k e h = rw (← e, le-ltb k end h)
-
-  fault-passes : ((k : ℕ) → refuses (refusal k) ≡ true) → refuses (fault_in ok end refusal) ≡ false → end ≤ first ok 0 end
-  fault-passes r h = ltb-false _ _ (by-test (ltb (first ok 0 end) end) h)
-    where
-      by-test : (b : Bool) → refuses (cond b (refusal (first ok 0 end)) done) ≡ false → b ≡ false
-      by-test true g = sym (r (first ok 0 end)) ∙ g
-      by-test false g = refl
 
 -- an answer is not past the end
 module _ (ok : ℕ → Bool) where
@@ -73,24 +57,24 @@ module _ (ok : ℕ → Bool) where
 -- ---- 3
 
 module _ (columns : List ℕ) (n : ℕ) where
-  pub columns-stop : (k : ℕ) → k ≡ first (column_fits columns n) 0 (length columns) → k < length columns → columns_check columns n ≡ bad_starts k
+  pub columns-stop : (k : ℕ) → Some k ≡ fault (column_fits columns n) 0 (length columns) → columns_check columns n ≡ bad_starts k
   unfolding columns_check
-  columns-stop k e h = fault-at (column_fits columns n) (length columns) bad_starts k e h
+  columns-stop k e = fault-stop (column_fits columns n) (length columns) bad_starts k e
 
-  pub columns-go : (k : ℕ) → k ≡ first (column_fits columns n) 0 (length columns) → length columns ≤ k → columns_check columns n ≡ done
+  pub columns-go : None ≡ fault (column_fits columns n) 0 (length columns) → columns_check columns n ≡ done
   unfolding columns_check
-  columns-go k e h = fault-none (column_fits columns n) (length columns) bad_starts k e h
+  columns-go e = fault-go (column_fits columns n) (length columns) bad_starts e
 
-  pub columns-pass : refuses (columns_check columns n) ≡ false → length columns ≤ first (column_fits columns n) 0 (length columns)
+  pub columns-pass : refuses (columns_check columns n) ≡ false → None ≡ fault (column_fits columns n) 0 (length columns)
   unfolding columns_check
-  columns-pass h = fault-passes (column_fits columns n) (length columns) bad_starts (λ k. refl) h
+  columns-pass h = fault-pass (column_fits columns n) (length columns) bad_starts (λ k. refl) h
 
-  pub sorted_of : length columns ≤ first (column_fits columns n) 0 (length columns) → Sorted columns n
+  pub sorted_of : None ≡ fault (column_fits columns n) 0 (length columns) → Sorted columns n
   unfolding column_fits
   sorted_of h = record { below = λ p l. ltb-true _ _ (and_left (ltb (at columns p) n) _ (ok p l)); rising = λ p q l m. by-distance (q - p) p q (omega arith) m }
     where
       ok : (p : ℕ) → p < length columns → column_fits columns n p ≡ true
-      ok p l = first-none (column_fits columns n) 0 (length columns) h p zero-le l
+      ok p l = faults.fault-clear (column_fits columns n) 0 (length columns) h p zero-le l
 
       next : (p : ℕ) → p + 1 < length columns → at columns p ≤ at columns (p + 1)
       next p l =
@@ -105,13 +89,13 @@ module _ (columns : List ℕ) (n : ℕ) where
 -- ---- 15
 
 module _ (dims rows columns offsets : List ℕ) (bodies : ℕ) where
-  pub offsets-stop : (k : ℕ) → k ≡ first (offset_fits dims rows columns offsets bodies) 0 (length offsets) → k < length offsets → offsets_check dims rows columns offsets bodies ≡ bad_sheet
+  pub offsets-stop : (k : ℕ) → Some k ≡ fault (offset_fits dims rows columns offsets bodies) 0 (length offsets) → offsets_check dims rows columns offsets bodies ≡ bad_sheet
   unfolding offsets_check
-  offsets-stop k e h = fault-at (offset_fits dims rows columns offsets bodies) (length offsets) (λ p. bad_sheet) k e h
+  offsets-stop k e = fault-stop (offset_fits dims rows columns offsets bodies) (length offsets) (λ p. bad_sheet) k e
 
-  pub offsets-go : (k : ℕ) → k ≡ first (offset_fits dims rows columns offsets bodies) 0 (length offsets) → length offsets ≤ k → offsets_check dims rows columns offsets bodies ≡ done
+  pub offsets-go : None ≡ fault (offset_fits dims rows columns offsets bodies) 0 (length offsets) → offsets_check dims rows columns offsets bodies ≡ done
   unfolding offsets_check
-  offsets-go k e h = fault-none (offset_fits dims rows columns offsets bodies) (length offsets) (λ p. bad_sheet) k e h
+  offsets-go e = fault-go (offset_fits dims rows columns offsets bodies) (length offsets) (λ p. bad_sheet) e
 
 -- ---- the starts
 

@@ -1,15 +1,15 @@
 // The contents of a sheet, once its tables are unpacked. How a search is made:
 //   NAME_ok      one place of one table: its test in specs/Contents.antt
-//   first_NAME   the loop over the places: the first at which the test fails, and the end where there is none
+//   first_NAME   the first place at which the test fails, if there is one
 ghost use Rattle.std.specs.Prelude.{◌≡◌, ℕ, ◌+◌, ◌*◌, ◌<◌, ◌≤◌, length};
-ghost use Rattle.tables.specs.Search.{first};
+ghost use Rattle.tables.specs.Search.{first, fault};
 ghost use Rattle.tables.specs.Verdict.{at};
 ghost use Rattle.tables.specs.Sound.{Sizes};
 ghost use Rattle.scalars.specs.Scalars.{scalar_count};
 ghost use Rattle.contents.specs.Contents.{column_fits, before, starts_from, offset_fits, Placed};
 
 use columns::cores::block_area;
-use tables::cores::wide;
+use tables::cores::{first_fault, wide};
 
 // The column of entry p is below n, and not below the one before it.
 pub fn column_ok(columns: &[u32], n: usize, p: usize) -> bool
@@ -27,32 +27,23 @@ pub fn column_ok(columns: &[u32], n: usize, p: usize) -> bool
 }
 
 // 3: the first entry whose column falls or isn't below n.
-pub fn first_column(columns: &[u32], n: usize) -> usize
-    ensures { result ≡ first (column_fits columns.now n) 0 (length columns.now) }
+pub fn first_column(columns: &[u32], n: usize) -> Option<usize>
+    ensures { result ≡ fault (column_fits columns.now n) 0 (length columns.now) }
 {
-    let mut i: usize = 0;
-    while i < columns.len() {
-        if !column_ok(columns, n, i) {
-            return i;
-        }
-        i += 1;
-    }
-    i
+    first_fault(0, columns.len(), |p| column_ok(columns, n, p))
 }
 
-// The first entry from `from` on whose column is j or more.
+// The first entry from `from` on whose column is j or more; the end where there is none.
 pub fn column_start(columns: &[u32], j: usize, from: usize) -> usize
     requires { from ≤ length columns.now }
     ensures { result ≡ first (before columns.now j) from (length columns.now) }
 {
-    let mut i = from;
-    while i < columns.len() {
+    for i in from..columns.len() {
         if j <= wide(columns[i]) {
             return i;
         }
-        i += 1;
     }
-    i
+    columns.len()
 }
 
 // Where each of n columns begins, behind the last the number of entries. Each search goes on where the one before ended.
@@ -73,10 +64,8 @@ pub fn scalar_count(dims: &[u32]) -> usize
     ensures { result ≡ scalar_count dims.now }
 {
     let mut sum: usize = 0;
-    let mut k: usize = 0;
-    while k < dims.len() {
-        sum += wide(dims[k]);
-        k += 1;
+    for &dim in dims {
+        sum += wide(dim);
     }
     sum
 }
@@ -88,19 +77,17 @@ pub fn first_offset(
     columns: &[u32],
     offsets: &[u32],
     bodies: usize,
-) -> usize
+) -> Option<usize>
     requires { Placed dims.now rows.now columns.now offsets.now × (bodies < 4294967296) }
-    ensures { result ≡ first (offset_fits dims.now rows.now columns.now offsets.now bodies) 0 (length offsets.now) }
+    ensures { result ≡ fault (offset_fits dims.now rows.now columns.now offsets.now bodies) 0 (length offsets.now) }
 {
     let mut sum: usize = 0;
-    let mut p: usize = 0;
-    while p < offsets.len() {
+    for p in 0..offsets.len() {
         if wide(offsets[p]) != bodies + 8 * sum {
-            return p;
+            return Some(p);
         }
         let j = wide(columns[p]);
         sum += block_area(dims, rows, wide(dims[j]), p);
-        p += 1;
     }
-    p
+    None
 }

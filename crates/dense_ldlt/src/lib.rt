@@ -37,6 +37,7 @@ impl Refusal for LdltError {
     }
 }
 
+// Kept: its cases are those of another error, which carries the same.
 impl From<ShapeError> for LdltError {
     ghost from_gives = { λ e r. r ≡ of_shape e };
 

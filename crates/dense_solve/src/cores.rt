@@ -38,6 +38,7 @@ fn divided_transpose_core(n: usize, l: &[f64], d: &[f64], x: &mut [f64])
 }
 
 // X := A⁻¹ X
+// Kept: a loop over columns; with the step as a closure its meaning would have to be a parameter too, and no line would go.
 pub fn ldlt_matsolve_core(n: usize, nrhs: usize, l: &[f64], d: &[f64], x: &mut [f64])
     requires { (length l.now ≡ n * n) × (length d.now ≡ n) × (length x.old ≡ n * nrhs) }
     ensures { x.new ≡ ldlt_matsolve n nrhs l.now d.now x.old }

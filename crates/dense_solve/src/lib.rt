@@ -11,6 +11,7 @@ use crate::cores::{ldlt_matsolve_core, ldlt_solve_core, solve_shapes};
 use refusal::{ShapeError, area, size};
 
 // x := A⁻¹ x, with L of n rows and columns, d and x of n numbers.
+// Kept: each calls its own shapes and its own core; these two lines are all that it shares with the others.
 pub fn ldlt_solve_inplace(
     n: usize,
     mat_l: &[f64],
@@ -25,6 +26,7 @@ pub fn ldlt_solve_inplace(
 }
 
 // X := A⁻¹ X, with L of n rows and columns, d of n numbers and X of n rows and nrhs columns.
+// Kept: each calls its own shapes and its own core; these two lines are all that it shares with the others.
 pub fn ldlt_matsolve_inplace(
     n: usize,
     nrhs: usize,

@@ -9,6 +9,7 @@ use kernel_right_transpose::cores::lower_transpose_rightsolve_core;
 use refusal::{ShapeError, area, size};
 
 // X := X A⁻¹
+// Kept: a loop over columns; with the step as a closure its meaning would have to be a parameter too, and no line would go.
 pub fn ldlt_right_matsolve_core(m: usize, n: usize, l: &[f64], d: &[f64], x: &mut [f64])
     requires { (length l.now ≡ n * n) × (length d.now ≡ n) × (length x.old ≡ m * n) }
     ensures { x.new ≡ ldlt_right_matsolve m n l.now d.now x.old }

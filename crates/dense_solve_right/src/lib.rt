@@ -12,6 +12,7 @@ use crate::cores::{ldlt_right_matsolve_core, right_shapes};
 use refusal::ShapeError;
 
 // X := X A⁻¹, with L of n rows and columns, d of n numbers and X of m rows and n columns.
+// Kept: each calls its own shapes and its own core; these two lines are all that it shares with the others.
 pub fn ldlt_right_matsolve_inplace(
     m: usize,
     n: usize,

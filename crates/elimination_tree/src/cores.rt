@@ -16,6 +16,7 @@ fn climb(parent: &mut [u32], ancestor: &mut [u32], j: u32, start: u32)
     ensures climbs_2 { Climbs j ancestor.new }
 {
     let mut i = start;
+    // Kept: it climbs a tree and counts nothing.
     while i != j {
         let at = i as usize;
         let next = ancestor[at];

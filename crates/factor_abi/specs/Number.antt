@@ -1,8 +1,7 @@
 -- What the exported factorization answers: the number of an outcome of `factorize::factorize`, and what it carries. Assumes nothing.
 use Rattle.std.specs.Prelude.{ℕ, List, Float}
 use Rattle.machine.specs.System.{System}
-use Rattle.factor_core.specs.Factorize.{Places, Factors, early}
-use Rattle.factor_core.specs.declared.Factorized.{Factorized}
+use Rattle.factor_core.specs.Factorize.{Factorized, Places, Factors, early}
 use Rattle.factor_report.specs.Answers.{Answers}
 
 -- the call on night a in the places b: the promise of `factorize::factorize`

@@ -7,6 +7,7 @@ ghost use Rattle.factor_core.specs.Factorize.{lent};
 ghost use Rattle.factor_abi.specs.Number.{Exports};
 
 use factor_report::tell;
+use factorize::{Outputs, Scratch, System, factorize};
 
 // The factorization: `factorize::factorize`, which names each slice. Accepted, `told` has L's blocks, L's numbers and the products;
 // refused, the place, or the buffer and its need, or the block and the place in it, and zeros after. `value` has the pivot of 13 or
@@ -46,7 +47,7 @@ pub extern "C" fn beyqaloosh_factorize(
 ) -> u32
     ensures { Exports (system dims.now starts.now rows.now values.now perm.now late.now tol) (lent order.old parents.old l_starts.old l_rows.old l_offsets.old l_values.old diag.old d.old column.old inverse.old sizes.old count.old heads.old into.old stamps.old table.old upper.old bodies.old unit_starts.old d_starts.old places.old) result told.new value.new (lent order.new parents.new l_starts.new l_rows.new l_offsets.new l_values.new diag.new d.new column.new inverse.new sizes.new count.new heads.new into.new stamps.new table.new upper.new bodies.new unit_starts.new d_starts.new places.new) }
 {
-    let f = factorize::factorize(
+    let s = System {
         dims,
         starts,
         rows,
@@ -54,6 +55,8 @@ pub extern "C" fn beyqaloosh_factorize(
         perm,
         late,
         tol,
+    };
+    let mut o = Outputs {
         order,
         parents,
         l_starts,
@@ -62,6 +65,8 @@ pub extern "C" fn beyqaloosh_factorize(
         l_values,
         diag,
         d,
+    };
+    let mut w = Scratch {
         column,
         inverse,
         sizes,
@@ -75,6 +80,7 @@ pub extern "C" fn beyqaloosh_factorize(
         unit_starts,
         d_starts,
         places,
-    );
+    };
+    let f = factorize(&s, &mut o, &mut w);
     tell(f, told, value)
 }

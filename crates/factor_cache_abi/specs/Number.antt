@@ -2,9 +2,8 @@
 -- carries. Assumes nothing.
 use Rattle.std.specs.Prelude.{ℕ, List, Float}
 use Rattle.machine.specs.System.{System}
-use Rattle.factor_core.specs.Factorize.{Places}
+use Rattle.factor_core.specs.Factorize.{Factorized, Places}
 use Rattle.factor_core.specs.Cache.{FactorsWithCache}
-use Rattle.factor_core.specs.declared.Factorized.{Factorized}
 use Rattle.factor_report.specs.Answers.{Answers}
 
 -- the call on night a in the places b with a cache c: the promise of `factorize_with_cache::factorize_with_cache`

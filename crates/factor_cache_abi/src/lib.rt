@@ -7,6 +7,7 @@ ghost use Rattle.factor_core.specs.Factorize.{lent};
 ghost use Rattle.factor_cache_abi.specs.Number.{ExportsWithCache};
 
 use factor_report::tell;
+use factorize_with_cache::{Outputs, Scratch, System, factorize_with_cache};
 
 // The factorization with a cache: `factorize_with_cache::factorize_with_cache`, which says what it needs and what is left in it. What is
 // answered, and what `told` and `value` have, is as `factor_abi::beyqaloosh_factorize` says; the cache is buffer 21.
@@ -46,7 +47,7 @@ pub extern "C" fn beyqaloosh_factorize_with_cache(
 ) -> u32
     ensures { ExportsWithCache (system dims.now starts.now rows.now values.now perm.now late.now tol) (lent order.old parents.old l_starts.old l_rows.old l_offsets.old l_values.old diag.old d.old column.old inverse.old sizes.old count.old heads.old into.old stamps.old table.old upper.old bodies.old unit_starts.old d_starts.old places.old) cache.old result told.new value.new (lent order.new parents.new l_starts.new l_rows.new l_offsets.new l_values.new diag.new d.new column.new inverse.new sizes.new count.new heads.new into.new stamps.new table.new upper.new bodies.new unit_starts.new d_starts.new places.new) cache.new }
 {
-    let f = factorize_with_cache::factorize_with_cache(
+    let s = System {
         dims,
         starts,
         rows,
@@ -54,6 +55,8 @@ pub extern "C" fn beyqaloosh_factorize_with_cache(
         perm,
         late,
         tol,
+    };
+    let mut o = Outputs {
         order,
         parents,
         l_starts,
@@ -62,6 +65,8 @@ pub extern "C" fn beyqaloosh_factorize_with_cache(
         l_values,
         diag,
         d,
+    };
+    let mut w = Scratch {
         column,
         inverse,
         sizes,
@@ -75,7 +80,7 @@ pub extern "C" fn beyqaloosh_factorize_with_cache(
         unit_starts,
         d_starts,
         places,
-        cache,
-    );
+    };
+    let f = factorize_with_cache(&s, &mut o, &mut w, cache);
     tell(f, told, value)
 }

@@ -3,6 +3,12 @@ use Rattle.std.specs.Prelude.{◌≡◌, ℕ, ◌≤◌, true, List}
 use mathlib.Core.Path.{sym, ap, subst, ◌∙◌}
 use native.Mathlib.Omega.{arith}
 use lib.Ieee.{Float}
+use mathlib.Core.Bool.{false≢true}
+use Rattle.std.specs.Prelude.{Ok, Err}
+use Rattle.std.specs.Result.{IsErr, IsErrAnd}
+use Rattle.checks.specs.Outcome.{told_system_error}
+use Rattle.checks.specs.declared.SystemError.{SystemError}
+use Rattle.factor_core.proofs.ErrorLaws.{error_refuses, tables_told}
 use Rattle.refusal.specs.Refusal.{Told, done, refuses, verdict, verdict_after}
 use Rattle.refusal.proofs.Laws.{stays-refused}
 use Rattle.needs.specs.Needs.{need_checks}
@@ -10,9 +16,8 @@ use Rattle.tables.specs.Verdict.{system_verdict}
 use Rattle.tables.specs.Sound.{SystemSound}
 use Rattle.tables.proofs.AreaLaws.{areas-le}
 use Rattle.machine.specs.System.{System}
-use Rattle.factor_core.specs.Factorize.{told, Places, first_list, early}
+use Rattle.factor_core.specs.Factorize.{Factorized, told_error, told, of_tables, Places, first_list, early}
 use Rattle.factor_core.specs.Cache.{handed_in, FactorsKept}
-use Rattle.factor_core.specs.declared.Factorized.{Factorized}
 use Rattle.factor_room.proofs.Laws.{refused}
 
 -- the tables are refused, and so is the call, in the same words
@@ -22,6 +27,12 @@ tables_refused most a b cache r stops e =
     let checks = need_checks (first_list a b) in
     let stays : early a b ≡ told r = ap (λ (t : Told). verdict_after t checks) (sym e) ∙ stays-refused (told r) checks stops in
     refused (early a b) most a b cache r (sym stays) (ap refuses stays ∙ stops)
+
+-- where `?` hands the refusal on
+pub tables-stop : (most : ℕ) (a : System) (b : Places) (cache : List Float) (e : SystemError) (r : Factorized) → IsErr r × IsErrAnd r (λ f. f ≡ of_tables e)
+    → told_system_error e ≡ system_verdict a.dims a.starts a.rows a.values a.perm a.late a.tol → FactorsKept (early a b) most a b cache r b cache
+tables-stop most a b cache e (Ok x) p t = absurd (false≢true p.0)
+tables-stop most a b cache e (Err f) p t = tables_refused most a b cache (Err f) (error_refuses f) (ap told_error p.1 ∙ tables_told e ∙ t)
 
 -- the tables pass, and the needs decide
 pub tables-passed : (a : System) (b : Places) → done ≡ system_verdict a.dims a.starts a.rows a.values a.perm a.late a.tol → verdict (need_checks (first_list a b)) ≡ early a b

@@ -1,5 +1,5 @@
 -- The outputs with the scratch cleared are what is promised, in buffers that have exactly their needs. Assumes nothing.
-use Rattle.std.specs.Prelude.{◌≡◌, ℕ, ◌+◌, ◌-◌, ◌<◌, ◌≤◌, Bool, true, false, cond, T, ◌↔◌, List, [], ◌++◌, length, drop, replicate}
+use Rattle.std.specs.Prelude.{◌≡◌, ℕ, ◌+◌, ◌-◌, ◌<◌, ◌≤◌, Bool, true, false, cond, T, ◌↔◌, List, [], ◌++◌, length, drop, replicate, Ok}
 use mathlib.Core.Bool.{false≢true}
 use mathlib.Core.List.{append-nil}
 use mathlib.Core.Path.{refl, sym, ap, subst, ◌∙◌}
@@ -34,9 +34,7 @@ use Rattle.layout.proofs.RowLaws.{rows-slot}
 use Rattle.layout.proofs.PlanLaws.{plan_rows, plan_columns}
 use Rattle.block_product.proofs.SlotLaws.{slot-length}
 use Rattle.factor_setup.specs.Exact.{l_starts, l_rows, stored, numbers}
-use Rattle.factor_core.specs.declared.Factorized.{Factorized}
-use Rattle.factor_core.specs.declared.Factorized.TheVariants as variant
-use Rattle.factor_core.specs.Factorize.{told, Places, answered, cleared, Demand3, FactorsBy, Exact}
+use Rattle.factor_core.specs.Factorize.{Factorized, told, Places, answered, cleared, Demand3, FactorsBy, Exact}
 use Rattle.factor_core.specs.Written.{Written}
 use Rattle.factor_core.specs.Cache.{cache_need, whole_kept, cleared_to, FactorsKept}
 use Rattle.factor_core.proofs.StopLaws.{accepted-run}
@@ -120,7 +118,7 @@ module _ (a : System) (sound : SystemSound a.dims a.starts a.rows a.values a.per
   passes : {A : Type 0} (old new now : A) → refuses v ≡ false → now ≡ after v old new → now ≡ new
   passes old new now p e = e ∙ ap (λ (t : Bool). cond t old new) p
 
-  accepted-passes : (c : Counts) → r ≡ variant.Accepted c → refuses v ≡ false
+  accepted-passes : (c : Counts) → r ≡ Ok c → refuses v ≡ false
   accepted-passes c e = go (refuses v) refl
     where
       go : (t : Bool) → refuses v ≡ t → refuses v ≡ false
@@ -129,7 +127,7 @@ module _ (a : System) (sound : SystemSound a.dims a.starts a.rows a.values a.per
           let q : told r ≡ v = w.outcome ∙ sym (first-refuses v _ p) in
           absurd (false≢true (sym (ap refuses (ap told e)) ∙ ap refuses q ∙ p))
 
-  demand3 : (c : Counts) → r ≡ variant.Accepted c → Demand3 a c.products b'.l_starts b'.l_rows
+  demand3 : (c : Counts) → r ≡ Ok c → Demand3 a c.products b'.l_starts b'.l_rows
   demand3 c e =
       let p = accepted-passes c e in
       let l = accepted-run a c.stored c.numbers c.products (sym (ap told e) ∙ w.outcome ∙ sym (first_passes v (answered a (run a)) p)) in

@@ -21,8 +21,10 @@ use Rattle.graph.proofs.SymbolicLaws.{columns_length, columns_at}
 use Rattle.tables.specs.Verdict.{at}
 use Rattle.elimination_tree.specs.Tree.{linked_up}
 use Rattle.order.specs.Order.{sizes_of}
-use Rattle.block_diag_ldlt.specs.declared.cores.Settled.{Settled}
-use Rattle.block_diag_ldlt.specs.declared.cores.Settled.TheVariants.{Accepted, NotFinite, Poor}
+use Rattle.std.specs.Prelude.{Result, Ok, Err}
+use Rattle.dense_pivots.specs.declared.LdltResult.{LdltResult}
+use Rattle.block_diag_ldlt.specs.declared.cores.BlockError.{BlockError}
+use Rattle.block_diag_ldlt.specs.declared.cores.BlockError.TheVariants.{NotFinite, Poor}
 use Rattle.machine.specs.System.{System, blocks, links, order, dim}
 use Rattle.machine.specs.Machine.{State, Column, load, sequence, worked, stored, start, run_to}
 use Rattle.machine.proofs.StepLaws.{products-finished}
@@ -79,10 +81,9 @@ pub diagonal-again : (sizes unit_starts d_starts : List ℕ) {n n' diag diag' d 
 diagonal-again sizes unit_starts d_starts en eu ed laid = rw (← en, ← eu, ← ed) laid
 
 -- the count has its bound, however the column ends
-pub counts-so : (j count : ℕ) (r : Settled) → count ≤ 16777216 * (j + 1) → Counted j (turned_of count r)
-counts-so j count (Accepted r) h = h
-counts-so j count (NotFinite place pivot) h = tt
-counts-so j count (Poor condition) h = tt
+pub counts-so : (j count : ℕ) (r : Result LdltResult BlockError) → count ≤ 16777216 * (j + 1) → Counted j (turned_of count r)
+counts-so j count (Ok r) h = h
+counts-so j count (Err e) h = tt
 
 -- ---- one column
 
@@ -103,7 +104,7 @@ module _ (t : Tables) (unit_starts d_starts : List ℕ) where
       (places : List ℕ) (values diag d cache c c' : List Float) (count count' : ℕ)
       (loads : (a : System) → Served t into upper g a → LoadedColumn t a j places c)
       (works : Works t unit_starts d_starts into upper (length g.dims) j places values diag d cache c count c' count')
-      (r : Settled) (values' diag' d' : List Float) (finishes : Finishes t unit_starts d_starts g.tol j places c' values diag d (r, values', diag', d'))
+      (r : Result LdltResult BlockError) (values' diag' d' : List Float) (finishes : Finishes t unit_starts d_starts g.tol j places c' values diag d (r, values', diag', d'))
       {m : ℕ} (laid : RowsLaid t (length g.dims) (length values) m) (cache' : List Float)
       (keeps : Keeps t.sizes t.l_rows t.l_offsets j (start_of t j) (stop_of t j) values' (slot (at unit_starts j) (side t j * side t j) diag') cache cache') where
     module _ (a : System) (served : Served t into upper g a) (up : UpTo t unit_starts d_starts a j values diag d cache count) where
@@ -163,9 +164,9 @@ module _ (t : Tables) (unit_starts d_starts : List ℕ) where
           }
 
       -- so its end is the machine's
-      ends : (r : Settled) → Ended t unit_starts d_starts a j (worked a j s) (r, values', diag', d') → After t unit_starts d_starts a j (turned_of count' r) values' diag' d' cache'
+      ends : (r : Result LdltResult BlockError) → Ended t unit_starts d_starts a j (worked a j s) (r, values', diag', d') → After t unit_starts d_starts a j (turned_of count' r) values' diag' d' cache'
       unfolding stored
-      ends (Accepted k) e =
+      ends (Ok k) e =
           record {
             state = record { finished = (worked a j s).finished ++ (e.0 ∷ []); work = λ i. none; done = (worked a j s).done };
             going_on = run-next a j s up.going_on ∙ ap (stored (worked a j s)) e.1;
@@ -175,8 +176,8 @@ module _ (t : Tables) (unit_starts d_starts : List ℕ) where
                 (subst (KeptAll t unit_starts d_starts cache) (sym same-finished) up.kept) e.2 keeps;
             counted = did.counted;
           }
-      ends (NotFinite place pivot) e = run-next a j s up.going_on ∙ ap (stored (worked a j s)) e
-      ends (Poor condition) e = run-next a j s up.going_on ∙ ap (stored (worked a j s)) e
+      ends (Err (NotFinite place pivot)) e = run-next a j s up.going_on ∙ ap (stored (worked a j s)) e
+      ends (Err (Poor condition)) e = run-next a j s up.going_on ∙ ap (stored (worked a j s)) e
 
     pub turns : Turns t unit_starts d_starts into upper g j values diag d cache count (turned_of count' r) values' diag' d' cache'
     turns a served up = ends a served up r (finishes a count' (worked a j up.state) (before a served up))

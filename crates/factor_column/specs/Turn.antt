@@ -1,32 +1,29 @@
 -- The flat lists of a factorization after the machine's first columns, and one column more. Assumes nothing.
 use Rattle.std.specs.Prelude.{◌≡◌, ℕ, suc, ◌+◌, ◌*◌, ◌<◌, ◌≤◌, List, length}
-use Rattle.std.specs.Prelude.{Float}
-use Rattle.refusal.specs.Refusal.{Told, pivot_not_finite, poorly_conditioned}
+use Rattle.std.specs.Prelude.{Float, Result, Ok, Err}
+use Rattle.refusal.specs.Refusal.{pivot_not_finite, poorly_conditioned}
 use Rattle.graph.specs.Symbolic as L
 use Rattle.graph.specs.Count.{column_triples}
 use Rattle.elimination_tree.specs.Tree.{linked_up}
-use Rattle.block_diag_ldlt.specs.declared.cores.Settled.{Settled}
-use Rattle.block_diag_ldlt.specs.declared.cores.Settled.TheVariants as settled
+use Rattle.dense_pivots.specs.declared.LdltResult.{LdltResult}
+use Rattle.block_diag_ldlt.specs.declared.cores.BlockError.{BlockError}
+use Rattle.block_diag_ldlt.specs.declared.cores.BlockError.TheVariants.{NotFinite, Poor}
 use Rattle.machine.specs.System.{System, blocks, links}
 use Rattle.machine.specs.Machine.{State, going, stopped, run_to}
 use Rattle.layout.specs.Layout.{Tables, rows_at}
 use Rattle.load_column.specs.Load.{Fed}
 use Rattle.finish_column.specs.Finish.{HoldsAll}
 use Rattle.keep_column.specs.Keep.{KeptAll}
-use Rattle.factor_column.specs.declared.cores.Turned.{Turned}
-use Rattle.factor_column.specs.declared.cores.Turned.TheVariants.{Stored, NotFinite, Poor}
 
--- how the end of a column, with the count so far, is told
-abbrev pub turned_of : ℕ → Settled → Turned
-turned_of count (settled.Accepted r) = Stored count
-turned_of count (settled.NotFinite place pivot) = NotFinite place pivot
-turned_of count (settled.Poor condition) = Poor condition
+-- the end of a column, with the count so far
+abbrev pub turned_of : ℕ → Result LdltResult BlockError → Result ℕ BlockError
+turned_of count (Ok r) = Ok count
+turned_of count (Err e) = Err e
 
 -- the count so far: at most 4,096² for each column
-abbrev pub Counted : ℕ → Turned → Type 0
-Counted j (Stored count) = count ≤ 16777216 * (j + 1)
-Counted j (NotFinite place pivot) = Unit {0}
-Counted j (Poor condition) = Unit {0}
+abbrev pub Counted : ℕ → Result ℕ BlockError → Type 0
+Counted j (Ok count) = count ≤ 16777216 * (j + 1)
+Counted j (Err e) = Unit {0}
 
 -- what a system is fed with, and the order of its elimination
 pub record Given : Type 0 where
@@ -57,11 +54,11 @@ module _ (t : Tables) (unit_starts d_starts : List ℕ) where
     pub counted : count ≡ length state.done
 
   -- column j as it ended: one column more, or the machine's refusal
-  abbrev pub After : System → ℕ → Turned → (values diag d cache : List Float) → Type 0
-  After a j (Stored count) values diag d cache = UpTo a (suc j) values diag d cache count
-  After a j (NotFinite place pivot) values diag d cache = run_to a (suc j) ≡ stopped (pivot_not_finite j place pivot)
-  After a j (Poor condition) values diag d cache = run_to a (suc j) ≡ stopped (poorly_conditioned j condition)
+  abbrev pub After : System → ℕ → Result ℕ BlockError → (values diag d cache : List Float) → Type 0
+  After a j (Ok count) values diag d cache = UpTo a (suc j) values diag d cache count
+  After a j (Err (NotFinite place pivot)) values diag d cache = run_to a (suc j) ≡ stopped (pivot_not_finite j place pivot)
+  After a j (Err (Poor condition)) values diag d cache = run_to a (suc j) ≡ stopped (poorly_conditioned j condition)
 
   -- the promise for one column, for every system that is served
-  abbrev pub Turns : (into upper : List ℕ) (g : Given) (j : ℕ) (values diag d cache : List Float) (count : ℕ) → Turned → (values' diag' d' cache' : List Float) → Type 0
+  abbrev pub Turns : (into upper : List ℕ) (g : Given) (j : ℕ) (values diag d cache : List Float) (count : ℕ) → Result ℕ BlockError → (values' diag' d' cache' : List Float) → Type 0
   Turns into upper g j values diag d cache count r values' diag' d' cache' = (a : System) → Served t into upper g a → UpTo a j values diag d cache count → After a j r values' diag' d' cache'

@@ -6,26 +6,16 @@ ghost use Rattle.load_column.specs.Load.{Source};
 ghost use Rattle.work_column.specs.Work.{Next, Grown};
 ghost use Rattle.factor_column.specs.Turn.{given, Turns, Counted, turned_of};
 
-use block_diag_ldlt::cores::Settled;
+use block_diag_ldlt::cores::BlockError;
+use dense_pivots::LdltResult;
 use finish_column::cores::finish_column;
 use keep_column::cores::keep_column;
 use load_column::cores::load_column;
 use work_column::cores::work_column;
 
-// How a column ends.
-#[derive(Clone, Copy)]
-pub enum Turned {
-    // The products of all columns so far.
-    Stored { count: u64 },
-    // 13
-    NotFinite { place: usize, pivot: f64 },
-    // 14
-    Poor { condition: f64 },
-}
-
 // Column j of the factor of A, whose tables and values are the first five slices; `order` is the order of elimination, `bodies` where
 // each body of A begins. The factor's flat lists are `l_values`, `diag` and d. `cache` keeps Q of the finished columns, as far as it is long
-// enough; all else of what is lent mutably is scratch.
+// enough; all else of what is lent mutably is scratch. The answer is the number of products of all columns so far.
 pub fn factor_column(
     dims: &[u32],
     starts: &[u32],
@@ -56,7 +46,7 @@ pub fn factor_column(
     d: &mut [f64],
     cache: &mut [f64],
     count: u64,
-) -> Turned
+) -> Result<u64, BlockError>
     requires source { Source dims.now starts.now rows.now values.now bodies.now order.now sizes.now }
     requires rows_laid { RowsLaid (tables sizes.now l_starts.now l_rows.now l_offsets.now) (length dims.now) (length l_values.old) (length c.old) }
     requires diagonal_laid { DiagonalLaid sizes.now unit_starts.now d_starts.now (length dims.now) (length diag.old) (length d.old) }
@@ -124,13 +114,10 @@ pub fn factor_column(
     turned_by(n, r)
 }
 
-// How the end of a column, with the count so far, is told.
-fn turned_by(count: u64, r: Settled) -> Turned
+// The end of a column, with the count so far.
+fn turned_by(count: u64, r: Result<LdltResult, BlockError>) -> Result<u64, BlockError>
     ensures { result ≡ turned_of count r }
 {
-    match r {
-        Settled::Accepted(_) => Turned::Stored { count },
-        Settled::NotFinite { place, pivot } => Turned::NotFinite { place, pivot },
-        Settled::Poor { condition } => Turned::Poor { condition },
-    }
+    r?;
+    Ok(count)
 }

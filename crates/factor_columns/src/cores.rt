@@ -5,31 +5,47 @@ ghost use Rattle.layout.specs.Layout.{tables, RowsLaid, DiagonalLaid};
 ghost use Rattle.load_column.specs.Load.{Source};
 ghost use Rattle.work_column.specs.Work.{Next, Grown};
 ghost use Rattle.factor_column.specs.Turn.{given};
-ghost use Rattle.factor_columns.specs.Columns.{Runs};
+ghost use Rattle.factor_columns.specs.Columns.{told_error, refused_at, Runs};
 
-use factor_column::cores::{Turned, factor_column};
+use block_diag_ldlt::cores::BlockError;
+use factor_column::cores::factor_column;
+use refusal::Refusal;
 
-// How the columns end.
-#[derive(Clone, Copy)]
-pub enum Worked {
-    // The products of all columns.
-    Done {
-        count: u64,
-    },
-    // 13
+// Why the columns are refused.
+#[derive(Clone, Copy, Debug, PartialEq)]
+pub enum ColumnError {
+    // 13: the pivot of row `place` of a block, by new number, is NaN or infinite.
     NotFinite {
         block: usize,
         place: usize,
         pivot: f64,
     },
-    // 14
+    // 14: a block, by new number, is indefinite with a condition below 1e-10.
     Poor {
         block: usize,
         condition: f64,
     },
 }
 
-// All columns of the factor of A, ascending, up to the first that is refused. What is lent is as `factor_column` says; `next` begins
+impl Refusal for ColumnError {
+    ghost told = { told_error };
+
+    fn number(&self) -> u32 {
+        match self {
+            ColumnError::NotFinite {
+                block: _,
+                place: _,
+                pivot: _,
+            } => 13,
+            ColumnError::Poor {
+                block: _,
+                condition: _,
+            } => 14,
+        }
+    }
+}
+
+// All columns of the factor of A, ascending, up to the first that is refused: the products of all of them. What is lent is as `factor_column` says; `next` begins
 // with the first places of L's columns.
 pub fn factor_columns(
     dims: &[u32],
@@ -59,7 +75,7 @@ pub fn factor_columns(
     diag: &mut [f64],
     d: &mut [f64],
     cache: &mut [f64],
-) -> Worked
+) -> Result<u64, ColumnError>
     requires source { Source dims.now starts.now rows.now values.now bodies.now order.now sizes.now }
     requires rows_laid { RowsLaid (tables sizes.now l_starts.now l_rows.now l_offsets.now) (length dims.now) (length l_values.old) (length c.old) }
     requires diagonal_laid { DiagonalLaid sizes.now unit_starts.now d_starts.now (length dims.now) (length diag.old) (length d.old) }
@@ -71,8 +87,7 @@ pub fn factor_columns(
 {
     let n = dims.len();
     let mut count: u64 = 0;
-    let mut j: usize = 0;
-    while j < n {
+    for j in 0..n {
         let r = factor_column(
             dims,
             starts,
@@ -105,24 +120,27 @@ pub fn factor_columns(
             count,
         );
         match r {
-            Turned::Stored { count: all } => {
+            Ok(all) => {
                 count = all;
             }
-            Turned::NotFinite { place, pivot } => {
-                return Worked::NotFinite {
-                    block: j,
-                    place,
-                    pivot,
-                };
-            }
-            Turned::Poor { condition } => {
-                return Worked::Poor {
-                    block: j,
-                    condition,
-                };
+            Err(e) => {
+                return Err(refused_at(j, e));
             }
         }
-        j += 1;
     }
-    Worked::Done { count }
+    Ok(count)
+}
+
+// The refusal of block `block`.
+fn refused_at(block: usize, e: BlockError) -> ColumnError
+    ensures { result ≡ refused_at block e }
+{
+    match e {
+        BlockError::NotFinite { place, pivot } => ColumnError::NotFinite {
+            block,
+            place,
+            pivot,
+        },
+        BlockError::Poor { condition } => ColumnError::Poor { block, condition },
+    }
 }

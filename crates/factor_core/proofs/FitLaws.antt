@@ -1,5 +1,5 @@
 -- The needs that only the plan shows.
---     offsets-short, values-short, cache-short, rows_short, all_there    the four needs, in their order
+--     offsets_short, values_short, cache_short, rows_short, all_there    the four needs, in their order
 --     met, told-needs                                                    where nothing is refused; the same needs told otherwise
 --     join-length                                                        a front that was changed in place leaves the length
 -- Assumes nothing.
@@ -19,14 +19,14 @@ module _ (o v c r s m k : ℕ) where
   abbrev planned : Told
   planned = verdict (need_checks (plan_needs o v c r s m k))
 
-  pub offsets-short : o < s + 1 → short_buffer 4 (s + 1) ≡ planned
-  offsets-short h = rw (need-short 4 o (s + 1) h) refl
+  pub offsets_short : o < s + 1 → short_buffer 4 (s + 1) ≡ planned
+  offsets_short h = rw (need-short 4 o (s + 1) h) refl
 
-  pub values-short : s + 1 ≤ o → v < m → short_buffer 5 m ≡ planned
-  values-short h i = rw (need-met 4 o (s + 1) h, need-short 5 v m i) refl
+  pub values_short : s + 1 ≤ o → v < m → short_buffer 5 m ≡ planned
+  values_short h i = rw (need-met 4 o (s + 1) h, need-short 5 v m i) refl
 
-  pub cache-short : s + 1 ≤ o → m ≤ v → c < k → short_buffer 21 k ≡ planned
-  cache-short h i l = rw (need-met 4 o (s + 1) h, need-met 5 v m i, need-short 21 c k l) refl
+  pub cache_short : s + 1 ≤ o → m ≤ v → c < k → short_buffer 21 k ≡ planned
+  cache_short h i l = rw (need-met 4 o (s + 1) h, need-met 5 v m i, need-short 21 c k l) refl
 
   pub rows_short : s + 1 ≤ o → m ≤ v → k ≤ c → r < s → short_buffer 3 s ≡ planned
   rows_short h i l n = rw (need-met 4 o (s + 1) h, need-met 5 v m i, need-met 21 c k l, need-short 3 r s n) refl

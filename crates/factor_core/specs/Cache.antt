@@ -1,14 +1,13 @@
 -- The cache of a factorization: one more lent buffer, where the products L(i, k) times the unit factor of k are kept. Its need is L's numbers,
 -- but no more than a bound by what is handed in; a call that is lent none has the bound 0. Assumes nothing.
-use Rattle.std.specs.Prelude.{◌≡◌, ℕ, ◌+◌, ◌*◌, cond, List, [], ◌∷◌, ◌++◌, length, drop, nat_lt}
+use Rattle.std.specs.Prelude.{◌≡◌, ℕ, ◌+◌, ◌*◌, cond, List, ◌++◌, length, drop, nat_lt}
 use Rattle.std.specs.Prelude.{Float}
 use Rattle.scalar.specs.Block.{zeros}
 use Rattle.refusal.specs.Refusal.{Told, verdict_after, after}
 use Rattle.needs.specs.Needs.{Lent, need_checks}
 use Rattle.machine.specs.System.{System}
 use Rattle.factor_setup.specs.Exact.{stored, numbers}
-use Rattle.factor_core.specs.declared.Factorized.{Factorized}
-use Rattle.factor_core.specs.Factorize.{Places, early, FactorsBy}
+use Rattle.factor_core.specs.Factorize.{Factorized, Places, early, FactorsBy}
 use Rattle.factor_core.specs.Written.{plan_needs}
 
 -- the lesser of two

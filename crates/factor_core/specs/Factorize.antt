@@ -1,14 +1,15 @@
 -- What `factorize::factorize` answers, and what it leaves in every lent place, for any arguments. Assumes nothing.
 use Rattle.std.specs.Prelude.{◌≡◌, ℕ, ◌+◌, ◌-◌, ◌<◌, false, T, ◌↔◌, List, [], ◌∷◌, ◌++◌, length, drop, replicate}
-use Rattle.std.specs.Prelude.{Float}
+use Rattle.std.specs.Prelude.{Float, Result, Ok}
 use Rattle.scalar.specs.Block.{zeros}
 use Rattle.graph.specs.Sets.{elem, between, sum}
 use Rattle.graph.specs.Links.{rows_in}
 use Rattle.graph.specs.Path.{Stored}
 use Rattle.graph.specs.Count.{products_of}
 use Rattle.graph.specs.Tree.{Parent}
-use Rattle.refusal.specs.Refusal.{Told, accepted, too_many_blocks, bad_dimension, bad_starts, too_many_stored, out_of_range, not_increasing, bad_value_count, bad_permutation, bad_late_flags, bad_tolerance, short_buffer, pivot_not_finite, poorly_conditioned, refuses, first_of, verdict_after, after}
+use Rattle.refusal.specs.Refusal.{Told, told_by, accepted, too_many_blocks, bad_dimension, bad_starts, too_many_stored, out_of_range, not_increasing, bad_value_count, bad_permutation, bad_late_flags, bad_tolerance, short_buffer, pivot_not_finite, poorly_conditioned, refuses, first_of, verdict_after, after}
 use Rattle.needs.specs.Needs.{Lent, lent_from, need_checks}
+use Rattle.needs.specs.declared.ShortBuffer.{ShortBuffer}
 use Rattle.tables.specs.Verdict.{at, system_verdict}
 use Rattle.elimination_tree.specs.Tree.{decode, parents_of}
 use Rattle.scalars.specs.Scalars.{scalar_count}
@@ -17,25 +18,61 @@ use Rattle.machine.specs.System.{System, blocks, links, order}
 use Rattle.machine.specs.Machine.{State, rows_at, Run, going, stopped, run}
 use Rattle.layout.specs.Layout.{units_need, work_need}
 use Rattle.factor_setup.specs.Exact.{stored, numbers, l_starts, l_rows, l_offsets, values_after, units_after, pivots_after}
-use Rattle.factor_core.specs.declared.Factorized.{Factorized}
-use Rattle.factor_core.specs.declared.Factorized.TheVariants as variant
+use Rattle.checks.specs.declared.SystemError.{SystemError}
+use Rattle.checks.specs.declared.SystemError.TheVariants as table
+use Rattle.factor_columns.specs.declared.cores.ColumnError.{ColumnError}
+use Rattle.factor_columns.specs.declared.cores.ColumnError.TheVariants as column
+use Rattle.factor_core.specs.declared.Outputs.{Outputs}
+use Rattle.factor_core.specs.declared.Scratch.{Scratch}
+use Rattle.factor_core.specs.declared.FactorizeError.{FactorizeError}
+use Rattle.factor_core.specs.declared.FactorizeError.TheVariants as variant
 
--- document 01's number and values for each case; an accepted factorization hands back L's blocks, L's numbers and the block products
+-- document 01's number and values for each refusal
+abbrev pub told_error : FactorizeError → Told
+told_error variant.Blocks = too_many_blocks
+told_error (variant.Dimension place) = bad_dimension place
+told_error (variant.Starts place) = bad_starts place
+told_error variant.Stored = too_many_stored
+told_error (variant.Row place) = out_of_range place
+told_error (variant.Order place) = not_increasing place
+told_error variant.Values = bad_value_count
+told_error (variant.Permutation place) = bad_permutation place
+told_error (variant.Late place) = bad_late_flags place
+told_error variant.Tolerance = bad_tolerance
+told_error (variant.Short which need) = short_buffer which need
+told_error (variant.NotFinite block place pivot) = pivot_not_finite block place pivot
+told_error (variant.Poor block condition) = poorly_conditioned block condition
+
+-- how a factorization ends: what L has and the block products, or a refusal
+abbrev pub Factorized : Type 0
+Factorized = Result Counts FactorizeError
+
+-- document 01's number and values; an accepted factorization hands back L's blocks, L's numbers and the block products
 abbrev pub told : Factorized → Told
-told (variant.Accepted c) = accepted (c.stored ∷ c.numbers ∷ c.products ∷ []) []
-told variant.Blocks = too_many_blocks
-told (variant.Dimension place) = bad_dimension place
-told (variant.Starts place) = bad_starts place
-told variant.Stored = too_many_stored
-told (variant.Row place) = out_of_range place
-told (variant.Order place) = not_increasing place
-told variant.Values = bad_value_count
-told (variant.Permutation place) = bad_permutation place
-told (variant.Late place) = bad_late_flags place
-told variant.Tolerance = bad_tolerance
-told (variant.Short which need) = short_buffer which need
-told (variant.NotFinite block place pivot) = pivot_not_finite block place pivot
-told (variant.Poor block condition) = poorly_conditioned block condition
+told = told_by (λ c. accepted (c.stored ∷ c.numbers ∷ c.products ∷ []) []) told_error
+
+-- ---- a refusal of the tables, of a buffer and of the columns, as the factorization's own
+
+abbrev pub of_tables : SystemError → FactorizeError
+of_tables table.Blocks = variant.Blocks
+of_tables (table.Dimension place) = variant.Dimension place
+of_tables (table.Starts place) = variant.Starts place
+of_tables table.Stored = variant.Stored
+of_tables (table.Row place) = variant.Row place
+of_tables (table.Order place) = variant.Order place
+of_tables table.Values = variant.Values
+of_tables (table.Permutation place) = variant.Permutation place
+of_tables (table.Late place) = variant.Late place
+of_tables table.Tolerance = variant.Tolerance
+
+abbrev pub of_short : ShortBuffer → FactorizeError
+of_short e = variant.Short e.which e.need
+
+abbrev pub of_columns : ColumnError → FactorizeError
+of_columns (column.NotFinite block place pivot) = variant.NotFinite block place pivot
+of_columns (column.Poor block condition) = variant.Poor block condition
+
+-- ---- what is lent
 
 -- what is lent, in the order of the call: eight outputs, the working column, then scratch
 pub record Places : Type 0 where
@@ -87,6 +124,38 @@ lent order parents l_starts l_rows l_offsets l_values diag d column inverse size
   d_starts = d_starts;
   places = places;
 }
+
+-- the same of the outputs and the scratch of a call
+abbrev pub lent_of : Outputs → Scratch → Places
+lent_of o w =
+    lent o.order.now o.parents.now o.l_starts.now o.l_rows.now o.l_offsets.now o.l_values.now o.diag.now o.d.now w.column.now
+    w.inverse.now w.sizes.now w.count.now w.heads.now w.into.now w.stamps.now w.table.now w.upper.now w.bodies.now w.unit_starts.now w.d_starts.now w.places.now
+
+-- each output is still the one that was lent, as long as it was, and so is each buffer of scratch
+pub record SameOutputs (o p : Outputs) : Type 0 where
+  pub order : (p.order.ghost_name ≡ o.order.ghost_name) × (length p.order.now ≡ length o.order.now)
+  pub parents : (p.parents.ghost_name ≡ o.parents.ghost_name) × (length p.parents.now ≡ length o.parents.now)
+  pub l_starts : (p.l_starts.ghost_name ≡ o.l_starts.ghost_name) × (length p.l_starts.now ≡ length o.l_starts.now)
+  pub l_rows : (p.l_rows.ghost_name ≡ o.l_rows.ghost_name) × (length p.l_rows.now ≡ length o.l_rows.now)
+  pub l_offsets : (p.l_offsets.ghost_name ≡ o.l_offsets.ghost_name) × (length p.l_offsets.now ≡ length o.l_offsets.now)
+  pub l_values : (p.l_values.ghost_name ≡ o.l_values.ghost_name) × (length p.l_values.now ≡ length o.l_values.now)
+  pub diag : (p.diag.ghost_name ≡ o.diag.ghost_name) × (length p.diag.now ≡ length o.diag.now)
+  pub d : (p.d.ghost_name ≡ o.d.ghost_name) × (length p.d.now ≡ length o.d.now)
+
+pub record SameScratch (w x : Scratch) : Type 0 where
+  pub column : (x.column.ghost_name ≡ w.column.ghost_name) × (length x.column.now ≡ length w.column.now)
+  pub inverse : (x.inverse.ghost_name ≡ w.inverse.ghost_name) × (length x.inverse.now ≡ length w.inverse.now)
+  pub sizes : (x.sizes.ghost_name ≡ w.sizes.ghost_name) × (length x.sizes.now ≡ length w.sizes.now)
+  pub count : (x.count.ghost_name ≡ w.count.ghost_name) × (length x.count.now ≡ length w.count.now)
+  pub heads : (x.heads.ghost_name ≡ w.heads.ghost_name) × (length x.heads.now ≡ length w.heads.now)
+  pub into : (x.into.ghost_name ≡ w.into.ghost_name) × (length x.into.now ≡ length w.into.now)
+  pub stamps : (x.stamps.ghost_name ≡ w.stamps.ghost_name) × (length x.stamps.now ≡ length w.stamps.now)
+  pub table : (x.table.ghost_name ≡ w.table.ghost_name) × (length x.table.now ≡ length w.table.now)
+  pub upper : (x.upper.ghost_name ≡ w.upper.ghost_name) × (length x.upper.now ≡ length w.upper.now)
+  pub bodies : (x.bodies.ghost_name ≡ w.bodies.ghost_name) × (length x.bodies.now ≡ length w.bodies.now)
+  pub unit_starts : (x.unit_starts.ghost_name ≡ w.unit_starts.ghost_name) × (length x.unit_starts.now ≡ length w.unit_starts.now)
+  pub d_starts : (x.d_starts.ghost_name ≡ w.d_starts.ghost_name) × (length x.d_starts.now ≡ length w.d_starts.now)
+  pub places : (x.places.ghost_name ≡ w.places.ghost_name) × (length x.places.now ≡ length w.places.now)
 
 -- ---- the needs
 
@@ -183,7 +252,7 @@ pub record FactorsBy (v w : Told) (a : System) (b : Places) (r : Factorized) (b'
   pub places : b'.places ≡ after v b.places (cleared (blocks a) b.places)
   -- each parent is Liu's, and an accepted factorization keeps demand 3
   pub liu : refuses w ≡ false → (k : ℕ) → k < blocks a → Parent (links a) (blocks a) k (decode (at b'.parents k))
-  pub demand3 : (c : Counts) → r ≡ variant.Accepted c → Demand3 a c.products b'.l_starts b'.l_rows
+  pub demand3 : (c : Counts) → r ≡ Ok c → Demand3 a c.products b'.l_starts b'.l_rows
 
 -- the promise of `factorize` under the early verdict v
 abbrev pub Factors : (v : Told) (a : System) (b : Places) (r : Factorized) (b' : Places) → Type 0

@@ -1,22 +1,18 @@
 -- The outputs of a factorization before its scratch is cleared, and the needs that only the plan shows. Assumes nothing.
-use Rattle.std.specs.Prelude.{◌≡◌, ℕ, ◌+◌, List, [], ◌∷◌, ◌++◌, drop}
+use Rattle.std.specs.Prelude.{◌≡◌, ℕ, ◌+◌, List, [], ◌∷◌, ◌++◌, drop, Result, Ok, Err}
 use Rattle.refusal.specs.Refusal.{Told, first_of, after}
 use Rattle.needs.specs.Needs.{Lent}
 use Rattle.elimination_tree.specs.Tree.{parents_of}
 use Rattle.machine.specs.System.{System, blocks, links, order}
 use Rattle.machine.specs.Machine.{run}
-use Rattle.factor_columns.specs.declared.cores.Worked.{Worked}
-use Rattle.factor_columns.specs.declared.cores.Worked.TheVariants as worked
+use Rattle.factor_columns.specs.declared.cores.ColumnError.{ColumnError}
 use Rattle.factor_setup.specs.Exact.{stored, numbers, l_starts, l_rows, l_offsets, values_after, units_after, pivots_after}
-use Rattle.factor_core.specs.declared.Factorized.{Factorized}
-use Rattle.factor_core.specs.declared.Factorized.TheVariants as variant
-use Rattle.factor_core.specs.Factorize.{told, Places, answered}
+use Rattle.factor_core.specs.Factorize.{Factorized, told, of_columns, Places, answered}
 
 -- how the end of the columns is told, with what L has
-abbrev pub factorized_by : (stored numbers : ℕ) → Worked → Factorized
-factorized_by stored numbers (worked.Done count) = variant.Accepted (record { stored = stored; numbers = numbers; products = count })
-factorized_by stored numbers (worked.NotFinite block place pivot) = variant.NotFinite block place pivot
-factorized_by stored numbers (worked.Poor block condition) = variant.Poor block condition
+abbrev pub factorized_by : (stored numbers : ℕ) → Result ℕ ColumnError → Factorized
+factorized_by s m (Ok count) = Ok (record { stored = s; numbers = m; products = count })
+factorized_by s m (Err e) = Err (of_columns e)
 
 -- the needs that only the plan shows, by the lengths of L's offsets, values, the cache and L's rows, where L has so many blocks and numbers and
 -- the cache needs `kept`

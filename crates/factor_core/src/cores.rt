@@ -1,19 +1,19 @@
 // The needs that only the plan shows, and how the end of the columns is told.
-ghost use Rattle.std.specs.Prelude.{◌≡◌, ◌<◌};
+ghost use Rattle.std.specs.Prelude.{◌≡◌, ◌<◌, OnOk};
 ghost use Rattle.refusal.specs.Refusal.{verdict};
-ghost use Rattle.needs.specs.Needs.{need_checks};
+ghost use Rattle.needs.specs.Needs.{need_checks, AllMet};
 ghost use Rattle.needs.specs.Needs as needs;
 ghost use Rattle.factor_core.specs.Written.{factorized_by, plan_needs};
 ghost use Rattle.factor_core.specs.Cache.{cleared_to};
 ghost use Rattle.factor_core.specs.Cache as cached;
 
-use crate::Factorized;
+use crate::FactorizeError;
 use analysis::cores::Counts;
-use factor_columns::cores::Worked;
-use needs::Room;
-use refusal::Worked as Passed;
+use factor_columns::cores::ColumnError;
+use needs::ShortBuffer;
 
 // The needs that only the plan shows: L's offsets, L's values, the cache, then L's row table.
+#[tactic(auto, using(crate::proofs::FitLaws::offsets_short, crate::proofs::FitLaws::values_short, crate::proofs::FitLaws::cache_short, crate::proofs::FitLaws::rows_short, crate::proofs::FitLaws::all_there))]
 pub fn plan_room(
     offsets: usize,
     values: usize,
@@ -22,35 +22,36 @@ pub fn plan_room(
     stored: usize,
     numbers: usize,
     kept: usize,
-) -> Room
+) -> Result<(), ShortBuffer>
     requires { stored < 16777216 }
-    ensures { needs.told result ≡ verdict (need_checks (plan_needs offsets values cache rows stored numbers kept)) }
+    ensures says { needs.told result ≡ verdict (need_checks (plan_needs offsets values cache rows stored numbers kept)) }
+    ensures met { OnOk result (AllMet (plan_needs offsets values cache rows stored numbers kept)) }
 {
     if offsets < stored + 1 {
-        return Room::Short {
+        return Err(ShortBuffer {
             which: 4,
             need: stored + 1,
-        };
+        });
     }
     if values < numbers {
-        return Room::Short {
+        return Err(ShortBuffer {
             which: 5,
             need: numbers,
-        };
+        });
     }
     if cache < kept {
-        return Room::Short {
+        return Err(ShortBuffer {
             which: 21,
             need: kept,
-        };
+        });
     }
     if rows < stored {
-        return Room::Short {
+        return Err(ShortBuffer {
             which: 3,
             need: stored,
-        };
+        });
     }
-    Room::Met(Passed {})
+    Ok(())
 }
 
 // The lesser of two.
@@ -69,24 +70,17 @@ pub fn clear_to(n: usize, x: &mut [f64])
 }
 
 // How the end of the columns is told, with what L has.
-pub fn factorized_by(r: Worked, stored: usize, numbers: usize) -> Factorized
+pub fn factorized_by(
+    r: Result<u64, ColumnError>,
+    stored: usize,
+    numbers: usize,
+) -> Result<Counts, FactorizeError>
     ensures { result ≡ factorized_by stored numbers r }
 {
-    match r {
-        Worked::Done { count } => Factorized::Accepted(Counts {
-            stored,
-            numbers,
-            products: count,
-        }),
-        Worked::NotFinite {
-            block,
-            place,
-            pivot,
-        } => Factorized::NotFinite {
-            block,
-            place,
-            pivot,
-        },
-        Worked::Poor { block, condition } => Factorized::Poor { block, condition },
-    }
+    let count = r?;
+    Ok(Counts {
+        stored,
+        numbers,
+        products: count,
+    })
 }

@@ -3,13 +3,49 @@
 
 pub mod cores;
 
-use analysis::cores::Counts;
+ghost use Rattle.std.specs.Prelude.{◌≡◌};
+ghost use Rattle.factor_core.specs.Factorize.{told_error, of_tables, of_short, of_columns};
 
-// The outcome of `factorize`.
-#[derive(Clone, Copy)]
-pub enum Factorized {
-    // L's blocks below the diagonal, L's numbers, and the block products worked through.
-    Accepted(Counts),
+pub use analysis::cores::Counts;
+use checks::SystemError;
+use factor_columns::cores::ColumnError;
+use needs::ShortBuffer;
+use refusal::Refusal;
+
+// The outputs of a factorization.
+#[derive(Drop)]
+pub struct Outputs<'a> {
+    pub order: &'a mut [u32],
+    pub parents: &'a mut [u32],
+    pub l_starts: &'a mut [u32],
+    pub l_rows: &'a mut [u32],
+    pub l_offsets: &'a mut [u32],
+    pub l_values: &'a mut [f64],
+    pub diag: &'a mut [f64],
+    pub d: &'a mut [f64],
+}
+
+// What a factorization is lent to work in.
+#[derive(Drop)]
+pub struct Scratch<'a> {
+    pub column: &'a mut [f64],
+    pub inverse: &'a mut [u32],
+    pub sizes: &'a mut [u32],
+    pub count: &'a mut [u32],
+    pub heads: &'a mut [u32],
+    pub into: &'a mut [u32],
+    pub stamps: &'a mut [u32],
+    pub table: &'a mut [u32],
+    pub upper: &'a mut [u32],
+    pub bodies: &'a mut [u32],
+    pub unit_starts: &'a mut [u32],
+    pub d_starts: &'a mut [u32],
+    pub places: &'a mut [u32],
+}
+
+// The refusals of `factorize`.
+#[derive(Clone, Copy, Debug, PartialEq)]
+pub enum FactorizeError {
     // 1
     Blocks,
     // 2: the block.
@@ -58,4 +94,84 @@ pub enum Factorized {
         block: usize,
         condition: f64,
     },
+}
+
+impl Refusal for FactorizeError {
+    ghost told = { told_error };
+
+    fn number(&self) -> u32 {
+        match self {
+            FactorizeError::Blocks => 1,
+            FactorizeError::Dimension { place: _ } => 2,
+            FactorizeError::Starts { place: _ } => 3,
+            FactorizeError::Stored => 4,
+            FactorizeError::Row { place: _ } => 5,
+            FactorizeError::Order { place: _ } => 6,
+            FactorizeError::Values => 7,
+            FactorizeError::Permutation { place: _ } => 8,
+            FactorizeError::Late { place: _ } => 9,
+            FactorizeError::Tolerance => 10,
+            FactorizeError::Short { which: _, need: _ } => 11,
+            FactorizeError::NotFinite {
+                block: _,
+                place: _,
+                pivot: _,
+            } => 13,
+            FactorizeError::Poor {
+                block: _,
+                condition: _,
+            } => 14,
+        }
+    }
+}
+
+// A refusal of the tables.
+impl From<SystemError> for FactorizeError {
+    ghost from_gives = { λ e r. r ≡ of_tables e };
+
+    fn from(e: SystemError) -> FactorizeError {
+        match e {
+            SystemError::Blocks => FactorizeError::Blocks,
+            SystemError::Dimension { place } => FactorizeError::Dimension { place },
+            SystemError::Starts { place } => FactorizeError::Starts { place },
+            SystemError::Stored => FactorizeError::Stored,
+            SystemError::Row { place } => FactorizeError::Row { place },
+            SystemError::Order { place } => FactorizeError::Order { place },
+            SystemError::Values => FactorizeError::Values,
+            SystemError::Permutation { place } => FactorizeError::Permutation { place },
+            SystemError::Late { place } => FactorizeError::Late { place },
+            SystemError::Tolerance => FactorizeError::Tolerance,
+        }
+    }
+}
+
+impl From<ShortBuffer> for FactorizeError {
+    ghost from_gives = { λ e r. r ≡ of_short e };
+
+    fn from(e: ShortBuffer) -> FactorizeError {
+        FactorizeError::Short {
+            which: e.which,
+            need: e.need,
+        }
+    }
+}
+
+// A refusal of the columns.
+impl From<ColumnError> for FactorizeError {
+    ghost from_gives = { λ e r. r ≡ of_columns e };
+
+    fn from(e: ColumnError) -> FactorizeError {
+        match e {
+            ColumnError::NotFinite {
+                block,
+                place,
+                pivot,
+            } => FactorizeError::NotFinite {
+                block,
+                place,
+                pivot,
+            },
+            ColumnError::Poor { block, condition } => FactorizeError::Poor { block, condition },
+        }
+    }
 }

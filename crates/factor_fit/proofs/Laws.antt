@@ -3,7 +3,7 @@
 --     kept-is, plan-told                              the needs that only the plan shows
 --     fit-short, fit_made                             the outputs
 -- Assumes nothing.
-use Rattle.std.specs.Prelude.{◌≡◌, ℕ, ◌+◌, ◌<◌, Bool, true, cond, List, ◌++◌, length, take, drop}
+use Rattle.std.specs.Prelude.{◌≡◌, ℕ, ◌+◌, ◌<◌, Bool, true, cond, List, ◌++◌, length, take, drop, Result}
 use mathlib.Core.Path.{sym, ap, ◌∙◌}
 use native.Mathlib.Omega.{arith}
 use lib.Ieee.{Float}
@@ -17,11 +17,10 @@ use Rattle.machine.specs.System.{System, blocks, links}
 use Rattle.machine.specs.Machine.{run}
 use Rattle.machine.proofs.RunLaws.{links-symm}
 use Rattle.layout.proofs.PlanLaws.{plan_few, plan-stored}
-use Rattle.factor_columns.specs.declared.cores.Worked.{Worked}
+use Rattle.factor_columns.specs.declared.cores.ColumnError.{ColumnError}
 use Rattle.factor_setup.specs.Exact.{stored, numbers, Analyzed}
 use Rattle.factor_made.specs.Made.{Makes}
-use Rattle.factor_core.specs.declared.Factorized.{Factorized}
-use Rattle.factor_core.specs.Factorize.{told, Places, answered}
+use Rattle.factor_core.specs.Factorize.{Factorized, told, Places, answered}
 use Rattle.factor_core.specs.Written.{factorized_by, plan_needs, Written}
 use Rattle.factor_core.specs.Cache.{lesser, cache_need, whole_kept}
 use Rattle.factor_core.proofs.FitLaws.{told-needs}
@@ -88,7 +87,7 @@ module _ (w : Told) (a : System) (b b' : Places) where
       kept old new = sym (ap (λ (z : Bool). cond z old new) also)
 
   -- all needs are met: the factor's
-  pub fit_made : (r : Factorized) (x : Worked) (moved parents starts rows offsets : List ℕ) (values diag d : List Float) → Makes a x moved parents starts rows offsets values diag d
+  pub fit_made : (r : Factorized) (x : Result ℕ ColumnError) (moved parents starts rows offsets : List ℕ) (values diag d : List Float) → Makes a x moved parents starts rows offsets values diag d
       → r ≡ factorized_by (stored a) (numbers a) x → done ≡ w
       → b'.order ≡ moved → b'.parents ≡ parents → b'.l_starts ≡ starts → b'.l_rows ≡ rows ++ drop (stored a) b.l_rows → b'.l_offsets ≡ offsets ++ drop (stored a + 1) b.l_offsets
       → b'.l_values ≡ values ++ drop (numbers a) b.l_values → b'.diag ≡ diag → b'.d ≡ d → Written w a b r b'

@@ -3,109 +3,97 @@
 ghost use Rattle.std.specs.Prelude.{◌≡◌, length};
 ghost use Rattle.refusal.specs.Refusal.{done};
 ghost use Rattle.tables.specs.Sound.{SystemSound};
-ghost use Rattle.factor_setup.specs.Exact.{system};
-ghost use Rattle.factor_core.specs.Factorize.{lent, Exact};
+ghost use Rattle.factor_setup.specs.Exact.{handed};
+ghost use Rattle.factor_core.specs.Factorize.{lent_of, SameOutputs, SameScratch, Exact};
 ghost use Rattle.factor_core.specs.Written.{Written};
 ghost use Rattle.factor_core.specs.Cache.{cache_need, whole_kept, cleared_to};
 
-use factor_core::Factorized;
+use analysis::cores::analyze;
 use factor_core::cores::{clear_to, factorized_by, lesser, plan_room};
+use factor_core::{Counts, FactorizeError, Outputs, Scratch};
 use factor_made::cores::make_factor;
-use needs::Room;
+use factor_setup::System;
 
 // The plan in scratch, then the needs that only the plan shows, then the outputs. A cache of at most `most` numbers is used, and ends as
 // zeros.
 pub fn fit(
-    dims: &[u32],
-    starts: &[u32],
-    rows: &[u32],
-    values: &[f64],
-    perm: &[u32],
-    late: &[u32],
-    tol: f64,
-    order: &mut [u32],
-    parents: &mut [u32],
-    l_starts: &mut [u32],
-    l_rows: &mut [u32],
-    l_offsets: &mut [u32],
-    l_values: &mut [f64],
-    diag: &mut [f64],
-    d: &mut [f64],
-    column: &mut [f64],
-    inverse: &mut [u32],
-    sizes: &mut [u32],
-    count: &mut [u32],
-    heads: &mut [u32],
-    into: &mut [u32],
-    stamps: &mut [u32],
-    table: &mut [u32],
-    upper: &mut [u32],
-    bodies: &mut [u32],
-    unit_starts: &mut [u32],
-    d_starts: &mut [u32],
-    places: &mut [u32],
+    s: &System,
+    o: &mut Outputs,
+    w: &mut Scratch,
     most: usize,
     cache: &mut [f64],
-) -> Factorized
-    requires system_sound { SystemSound dims.now starts.now rows.now values.now perm.now late.now tol }
-    requires exact { Exact (system dims.now starts.now rows.now values.now perm.now late.now tol) (lent order.old parents.old l_starts.old l_rows.old l_offsets.old l_values.old diag.old d.old column.old inverse.old sizes.old count.old heads.old into.old stamps.old table.old upper.old bodies.old unit_starts.old d_starts.old places.old) }
-    ensures written { Written (whole_kept done most (system dims.now starts.now rows.now values.now perm.now late.now tol) (lent order.old parents.old l_starts.old l_rows.old l_offsets.old l_values.old diag.old d.old column.old inverse.old sizes.old count.old heads.old into.old stamps.old table.old upper.old bodies.old unit_starts.old d_starts.old places.old) (length cache.old)) (system dims.now starts.now rows.now values.now perm.now late.now tol) (lent order.old parents.old l_starts.old l_rows.old l_offsets.old l_values.old diag.old d.old column.old inverse.old sizes.old count.old heads.old into.old stamps.old table.old upper.old bodies.old unit_starts.old d_starts.old places.old) result (lent order.new parents.new l_starts.new l_rows.new l_offsets.new l_values.new diag.new d.new column.new inverse.new sizes.new count.new heads.new into.new stamps.new table.new upper.new bodies.new unit_starts.new d_starts.new places.new) }
-    ensures cache_after { cache.new ≡ cleared_to (cache_need most (system dims.now starts.now rows.now values.now perm.now late.now tol)) cache.old }
+) -> Result<Counts, FactorizeError>
+    requires system_sound { SystemSound s.now.dims.now s.now.starts.now s.now.rows.now s.now.values.now s.now.perm.now s.now.late.now s.now.tol }
+    requires exact { Exact (handed s.now) (lent_of o.old w.old) }
+    ensures written { Written (whole_kept done most (handed s.now) (lent_of o.old w.old) (length cache.old)) (handed s.now) (lent_of o.old w.old) result (lent_of o.new w.new) }
+    ensures cache_after { cache.new ≡ cleared_to (cache_need most (handed s.now)) cache.old }
+    ensures outputs { SameOutputs o.old o.new }
+    ensures scratch { SameScratch w.old w.new }
 {
-    let n = dims.len();
-    let found = analysis::cores::analyze(
-        dims, starts, rows, perm, late, inverse, sizes, count, heads, into, stamps, table, upper,
+    let found = analyze(
+        s.dims, s.starts, s.rows, s.perm, s.late, w.inverse, w.sizes, w.count, w.heads, w.into,
+        w.stamps, w.table, w.upper,
     );
-    let counts = found.counts;
-    let stored = counts.stored;
-    let numbers = counts.numbers;
+    let stored = found.counts.stored;
+    let numbers = found.counts.numbers;
     let kept = lesser(numbers, most);
     let room = plan_room(
-        l_offsets.len(),
-        l_values.len(),
+        o.l_offsets.len(),
+        o.l_values.len(),
         cache.len(),
-        l_rows.len(),
+        o.l_rows.len(),
         stored,
         numbers,
         kept,
     );
-    match room {
-        Room::Short { which, need } => {
-            clear_to(kept, cache);
-            Factorized::Short { which, need }
-        }
-        Room::Met(_) => {
-            let r = make_factor(
-                dims,
-                starts,
-                rows,
-                values,
-                perm,
-                late,
-                tol,
-                &heads[..n],
-                into,
-                &upper[..found.entries],
-                order,
-                parents,
-                l_starts,
-                &mut l_rows[..stored],
-                &mut l_offsets[..stored + 1],
-                &mut l_values[..numbers],
-                diag,
-                d,
-                column,
-                inverse,
-                sizes,
-                count,
-                stamps,
-                bodies,
-                unit_starts,
-                d_starts,
-                places,
-                &mut cache[..kept],
-            );
-            factorized_by(r, stored, numbers)
-        }
+    if let Err(short) = room {
+        clear_to(kept, cache);
+        return Err(FactorizeError::from(short));
     }
+    let order = &mut *o.order;
+    let parents = &mut *o.parents;
+    let l_starts = &mut *o.l_starts;
+    let l_rows = &mut *o.l_rows;
+    let l_offsets = &mut *o.l_offsets;
+    let l_values = &mut *o.l_values;
+    let diag = &mut *o.diag;
+    let d = &mut *o.d;
+    let column = &mut *w.column;
+    let inverse = &mut *w.inverse;
+    let sizes = &mut *w.sizes;
+    let count = &mut *w.count;
+    let heads = &mut *w.heads;
+    let into = &mut *w.into;
+    let stamps = &mut *w.stamps;
+    let upper = &mut *w.upper;
+    let bodies = &mut *w.bodies;
+    let unit_starts = &mut *w.unit_starts;
+    let d_starts = &mut *w.d_starts;
+    let places = &mut *w.places;
+    let r = make_factor(
+        s,
+        heads,
+        into,
+        upper,
+        found.entries,
+        order,
+        parents,
+        l_starts,
+        &mut l_rows[..stored],
+        &mut l_offsets[..stored + 1],
+        &mut l_values[..numbers],
+        diag,
+        d,
+        column,
+        inverse,
+        sizes,
+        count,
+        stamps,
+        bodies,
+        unit_starts,
+        d_starts,
+        places,
+        &mut cache[..kept],
+    );
+    factorized_by(r, stored, numbers)
 }

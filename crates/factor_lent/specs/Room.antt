@@ -13,7 +13,7 @@ abbrev pub Exactly : (need have : ℕ) → Type 0
 Exactly need have = have ≡ need
 
 -- the outputs but L's rows, offsets and values
-pub record Outputs (R : ℕ → ℕ → Type 0) (a : System) (order parents l_starts : List ℕ) (diag d : List Float) : Type 0 where
+pub record OutputRoom (R : ℕ → ℕ → Type 0) (a : System) (order parents l_starts : List ℕ) (diag d : List Float) : Type 0 where
   pub of_order : R (blocks a) (length order)
   pub of_parents : R (blocks a) (length parents)
   pub of_l_starts : R (blocks a + 1) (length l_starts)

@@ -1,31 +1,21 @@
 // The factorization in scratch that may be longer than its needs: it is worked out in the first places of each.
 ghost use Rattle.refusal.specs.Refusal.{done};
 ghost use Rattle.tables.specs.Sound.{SystemSound};
-ghost use Rattle.factor_setup.specs.Exact.{system};
-ghost use Rattle.factor_core.specs.Factorize.{lent};
+ghost use Rattle.factor_setup.specs.Exact.{handed};
+ghost use Rattle.factor_core.specs.Factorize.{lent, SameOutputs};
 ghost use Rattle.factor_core.specs.Cache.{FactorsKept};
-ghost use Rattle.factor_lent.specs.Room.{Enough, Exactly, Outputs, PlanScratch, NumberScratch};
+ghost use Rattle.factor_lent.specs.Room.{Enough, Exactly, OutputRoom, PlanScratch, NumberScratch};
 
 use factor_cleared::cores::factored_core;
-use factor_core::Factorized;
+use factor_core::{Counts, FactorizeError, Outputs, Scratch};
+use factor_setup::System;
+use factor_tables::cores::work_numbers;
 
 // The outputs have exactly their needs. The scratch is cut here.
+// Kept: the scratch buffer by buffer: what is cut from a struct's field can't be lent in another struct, only what is cut from a parameter.
 pub fn lend_scratch(
-    dims: &[u32],
-    starts: &[u32],
-    rows: &[u32],
-    values: &[f64],
-    perm: &[u32],
-    late: &[u32],
-    tol: f64,
-    order: &mut [u32],
-    parents: &mut [u32],
-    l_starts: &mut [u32],
-    l_rows: &mut [u32],
-    l_offsets: &mut [u32],
-    l_values: &mut [f64],
-    diag: &mut [f64],
-    d: &mut [f64],
+    s: &System,
+    o: &mut Outputs,
     column: &mut [f64],
     inverse: &mut [u32],
     sizes: &mut [u32],
@@ -41,46 +31,44 @@ pub fn lend_scratch(
     places: &mut [u32],
     most: usize,
     cache: &mut [f64],
-) -> Factorized
-    requires system_sound { SystemSound dims.now starts.now rows.now values.now perm.now late.now tol }
-    requires outputs { Outputs Exactly (system dims.now starts.now rows.now values.now perm.now late.now tol) order.old parents.old l_starts.old diag.old d.old }
-    requires plan_scratch { PlanScratch Enough (system dims.now starts.now rows.now values.now perm.now late.now tol) inverse.old sizes.old count.old heads.old into.old stamps.old table.old upper.old }
-    requires number_scratch { NumberScratch Enough (system dims.now starts.now rows.now values.now perm.now late.now tol) column.old bodies.old unit_starts.old d_starts.old places.old }
-    ensures { FactorsKept done most (system dims.now starts.now rows.now values.now perm.now late.now tol) (lent order.old parents.old l_starts.old l_rows.old l_offsets.old l_values.old diag.old d.old column.old inverse.old sizes.old count.old heads.old into.old stamps.old table.old upper.old bodies.old unit_starts.old d_starts.old places.old) cache.old result (lent order.new parents.new l_starts.new l_rows.new l_offsets.new l_values.new diag.new d.new column.new inverse.new sizes.new count.new heads.new into.new stamps.new table.new upper.new bodies.new unit_starts.new d_starts.new places.new) cache.new }
+) -> Result<Counts, FactorizeError>
+    requires system_sound { SystemSound s.now.dims.now s.now.starts.now s.now.rows.now s.now.values.now s.now.perm.now s.now.late.now s.now.tol }
+    requires outputs { OutputRoom Exactly (handed s.now) o.old.order.now o.old.parents.now o.old.l_starts.now o.old.diag.now o.old.d.now }
+    requires plan_scratch { PlanScratch Enough (handed s.now) inverse.old sizes.old count.old heads.old into.old stamps.old table.old upper.old }
+    requires number_scratch { NumberScratch Enough (handed s.now) column.old bodies.old unit_starts.old d_starts.old places.old }
+    ensures kept { FactorsKept done most (handed s.now) (lent o.old.order.now o.old.parents.now o.old.l_starts.now o.old.l_rows.now o.old.l_offsets.now o.old.l_values.now o.old.diag.now o.old.d.now column.old inverse.old sizes.old count.old heads.old into.old stamps.old table.old upper.old bodies.old unit_starts.old d_starts.old places.old) cache.old result (lent o.new.order.now o.new.parents.now o.new.l_starts.now o.new.l_rows.now o.new.l_offsets.now o.new.l_values.now o.new.diag.now o.new.d.now column.new inverse.new sizes.new count.new heads.new into.new stamps.new table.new upper.new bodies.new unit_starts.new d_starts.new places.new) cache.new }
+    ensures same { SameOutputs o.old o.new }
 {
-    let n = dims.len();
-    let m = rows.len();
-    let work = factor_tables::cores::work_numbers(dims);
-    factored_core(
-        dims,
-        starts,
-        rows,
-        values,
-        perm,
-        late,
-        tol,
-        order,
-        parents,
-        l_starts,
-        l_rows,
-        l_offsets,
-        l_values,
-        diag,
-        d,
-        &mut column[..work],
-        &mut inverse[..n],
-        &mut sizes[..n],
-        &mut count[..n],
-        &mut heads[..n + 1],
-        &mut into[..n + 1],
-        &mut stamps[..n],
-        &mut table[..m],
-        &mut upper[..m],
-        &mut bodies[..m + 1],
-        &mut unit_starts[..n + 1],
-        &mut d_starts[..n + 1],
-        &mut places[..n],
-        most,
-        cache,
-    )
+    let n = s.dims.len();
+    let m = s.rows.len();
+    let work = work_numbers(s.dims);
+    let (column, _) = column.split_at_mut(work);
+    let (inverse, _) = inverse.split_at_mut(n);
+    let (sizes, _) = sizes.split_at_mut(n);
+    let (count, _) = count.split_at_mut(n);
+    let (heads, _) = heads.split_at_mut(n + 1);
+    let (into, _) = into.split_at_mut(n + 1);
+    let (stamps, _) = stamps.split_at_mut(n);
+    let (table, _) = table.split_at_mut(m);
+    let (upper, _) = upper.split_at_mut(m);
+    let (bodies, _) = bodies.split_at_mut(m + 1);
+    let (unit_starts, _) = unit_starts.split_at_mut(n + 1);
+    let (d_starts, _) = d_starts.split_at_mut(n + 1);
+    let (places, _) = places.split_at_mut(n);
+    let mut w = Scratch {
+        column,
+        inverse,
+        sizes,
+        count,
+        heads,
+        into,
+        stamps,
+        table,
+        upper,
+        bodies,
+        unit_starts,
+        d_starts,
+        places,
+    };
+    factored_core(s, o, &mut w, most, cache)
 }

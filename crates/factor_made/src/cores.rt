@@ -1,27 +1,24 @@
 // The tables and the numbers of a factor, from what the analysis of the night leaves.
-ghost use Rattle.std.specs.Prelude.{◌≡◌, length};
+ghost use Rattle.std.specs.Prelude.{◌≡◌, ◌≤◌, length, take};
 ghost use Rattle.scalar.specs.Block.{zeros};
 ghost use Rattle.tables.specs.Sound.{SystemSound};
-ghost use Rattle.factor_setup.specs.Exact.{system, Analyzed, TableRoom, NumberRoom};
+ghost use Rattle.factor_setup.specs.Exact.{handed, Analyzed, TableRoom, NumberRoom};
 ghost use Rattle.factor_made.specs.Made.{Makes};
 
-use factor_columns::cores::Worked;
+use factor_columns::cores::ColumnError;
 use factor_numbers::cores::write_numbers;
+use factor_setup::System;
 use factor_setup::cores::write_tables;
 
-// The factor by the analysis in `tree`, `into`, `upper` and `count`. From `column` on all is scratch. The
+// The factor by the analysis in `heads`, `into`, `upper` and `count`: the tree is the first places of `heads`, one for each block, and `upper` has
+// `entries`. From `column` on all is scratch. The
 // cache ends as zeros.
 pub fn make_factor(
-    dims: &[u32],
-    starts: &[u32],
-    rows: &[u32],
-    values: &[f64],
-    perm: &[u32],
-    late: &[u32],
-    tol: f64,
-    tree: &[u32],
+    s: &System,
+    heads: &[u32],
     into: &[u32],
     upper: &[u32],
+    entries: usize,
     order: &mut [u32],
     parents: &mut [u32],
     l_starts: &mut [u32],
@@ -40,20 +37,23 @@ pub fn make_factor(
     d_starts: &mut [u32],
     places: &mut [u32],
     cache: &mut [f64],
-) -> Worked
-    requires system_sound { SystemSound dims.now starts.now rows.now values.now perm.now late.now tol }
-    requires analyzed { Analyzed (system dims.now starts.now rows.now values.now perm.now late.now tol) into.now upper.now tree.now count.old }
-    requires table_room { TableRoom (system dims.now starts.now rows.now values.now perm.now late.now tol) order.old parents.old l_starts.old l_rows.old l_offsets.old inverse.old sizes.old stamps.old bodies.old unit_starts.old d_starts.old places.old }
-    requires number_room { NumberRoom (system dims.now starts.now rows.now values.now perm.now late.now tol) l_values.old diag.old d.old column.old inverse.old places.old }
-    ensures makes { Makes (system dims.now starts.now rows.now values.now perm.now late.now tol) result order.new parents.new l_starts.new l_rows.new l_offsets.new l_values.new diag.new d.new }
+) -> Result<u64, ColumnError>
+    requires system_sound { SystemSound s.now.dims.now s.now.starts.now s.now.rows.now s.now.values.now s.now.perm.now s.now.late.now s.now.tol }
+    requires analyzed { Analyzed (handed s.now) into.now (take entries upper.now) (take (length s.now.dims.now) heads.now) count.old }
+    requires analyzed_len { (length s.now.dims.now ≤ length heads.now) × (entries ≤ length upper.now) }
+    requires table_room { TableRoom (handed s.now) order.old parents.old l_starts.old l_rows.old l_offsets.old inverse.old sizes.old stamps.old bodies.old unit_starts.old d_starts.old places.old }
+    requires number_room { NumberRoom (handed s.now) l_values.old diag.old d.old column.old inverse.old places.old }
+    ensures makes { Makes (handed s.now) result order.new parents.new l_starts.new l_rows.new l_offsets.new l_values.new diag.new d.new }
     ensures cache_after { cache.new ≡ zeros (length cache.old) }
 {
+    let tree = &heads[..s.dims.len()];
+    let upper = &upper[..entries];
     write_tables(
-        dims,
-        starts,
-        rows,
-        perm,
-        late,
+        s.dims,
+        s.starts,
+        s.rows,
+        s.perm,
+        s.late,
         tree,
         into,
         upper,
@@ -72,13 +72,7 @@ pub fn make_factor(
         places,
     );
     write_numbers(
-        dims,
-        starts,
-        rows,
-        values,
-        perm,
-        late,
-        tol,
+        s,
         tree,
         into,
         upper,

@@ -2,7 +2,7 @@
 --     same_tables   Same: the starts, the rows and the parents are those of the links
 --     tables-same   and back
 --     same-rule     Same in the words of the papers: each column has the rows of the path rule, each parent is the one that Liu defines
-use Rattle.std.specs.Prelude.{◌≡◌, ℕ, zero, suc, ◌+◌, ◌-◌, ◌<◌, ◌≤◌, Bool, true, false, cond, not, ◌||◌, T, eqb, ltb, ◌↔◌, List, [], length, take}
+use Rattle.std.specs.Prelude.{◌≡◌, ℕ, zero, suc, ◌+◌, ◌-◌, ◌<◌, ◌≤◌, Bool, true, false, cond, not, ◌||◌, T, eqb, ltb, ◌↔◌, List, [], length, take, Result, Ok, Err}
 use Prim.Native.Nat.{zero-le}
 use mathlib.Core.Logic.{⊎_elim}
 use mathlib.Core.Option.{Option}
@@ -30,8 +30,8 @@ use Rattle.elimination_tree.proofs.Links.{parents-length, parents-at, parents-ba
 use Rattle.analysis.specs.Plan.{starts_of, rows_of}
 use Rattle.layout.proofs.RowLaws.{rows-slot}
 use Rattle.layout.proofs.PlanLaws.{plan_columns, plan_rows}
-use Rattle.factor_match.specs.Match.{lacks, missing, extra, column_right, kind_at, first_wrong, match_of}
-use Rattle.factor_match.specs.declared.cores.Match.TheVariants as kind
+use Rattle.factor_match.specs.Match.{lacks, column_right, kind_at, first_wrong, match_of}
+use Rattle.factor_match.specs.declared.cores.ColumnError.{ColumnError}
 use Rattle.factor_match.proofs.MatchLaws.{lacks-some, lacks-same, wrong-none, is_right}
 
 -- ---- two tables with the same columns are the same
@@ -75,10 +75,8 @@ module _ {least : ℕ → ℕ} {n : ℕ} {starts rows starts' rows' : List ℕ} 
 
 -- ---- what an answer of Same says
 
-kind-wrong : (a b : Bool) (k : ℕ) → cond a (kind.Missing k) (cond b (kind.Extra k) (kind.Parent k)) ≡ kind.Same → ⊥
-kind-wrong true b k e = let z : ◌≡◌ {A = ℕ} 0 1 = cc in omega arith
-kind-wrong false true k e = let z : ◌≡◌ {A = ℕ} 0 1 = cc in omega arith
-kind-wrong false false k e = let z : ◌≡◌ {A = ℕ} 0 1 = cc in omega arith
+an-error : (x : ColumnError) → ◌≡◌ {A = Result Unit ColumnError} (Err x) (Ok tt) → ⊥
+an-error x e = cc
 
 none_of : (a b c : Bool) → not (a || (b || c)) ≡ true → (a ≡ false) × (b ≡ false) × (c ≡ false)
 none_of true b c e = absurd (is_false (sym e) tt)
@@ -90,12 +88,12 @@ lacks-false : (l m : List ℕ) → lacks l m ≡ false → (i : ℕ) → T (elem
 lacks-false l m e i t = ⊎_elim (λ s. s) (λ s. absurd (is_false (sym (lacks-some l m i t s) ∙ e) tt)) (decide (elem i m))
 
 module _ (linked : ℕ → ℕ → Bool) (n : ℕ) (symm : (a b : ℕ) → T (linked a b) → T (linked b a)) (parents : List ℕ) where
-  same-right : (listed : ℕ → List ℕ) → first_wrong linked n parents listed ≡ kind.Same → (k : ℕ) → k < n → column_right linked n parents listed k ≡ true
+  same-right : (listed : ℕ → List ℕ) → first_wrong linked n parents listed ≡ Ok tt → (k : ℕ) → k < n → column_right linked n parents listed k ≡ true
   unfolding first_wrong kind_at
   same-right listed e k h = first-none (column_right linked n parents listed) 0 n (go (ltb (first (column_right linked n parents listed) 0 n) n) refl e) k zero-le h
     where
-      go : (b : Bool) → ltb (first (column_right linked n parents listed) 0 n) n ≡ b → cond b (kind_at linked n parents listed (first (column_right linked n parents listed) 0 n)) kind.Same ≡ kind.Same → n ≤ first (column_right linked n parents listed) 0 n
-      go true x y = absurd (kind-wrong (missing linked n parents listed (first (column_right linked n parents listed) 0 n)) (extra linked n parents listed (first (column_right linked n parents listed) 0 n)) (first (column_right linked n parents listed) 0 n) y)
+      go : (b : Bool) → ltb (first (column_right linked n parents listed) 0 n) n ≡ b → ◌≡◌ {A = Result Unit ColumnError} (cond b (Err (kind_at linked n parents listed (first (column_right linked n parents listed) 0 n))) (Ok tt)) (Ok tt) → n ≤ first (column_right linked n parents listed) 0 n
+      go true x y = absurd (an-error _ y)
       go false x y = ltb-false (first (column_right linked n parents listed) 0 n) n x
 
   module _ (l_starts l_rows : List ℕ) (columns : Columns past_diagonal n l_starts l_rows) where
@@ -111,7 +109,7 @@ module _ (linked : ℕ → ℕ → Bool) (n : ℕ) (symm : (a b : ℕ) → T (li
     plan-column : (k : ℕ) → k < n → rows_in (starts_of linked n) (rows_of linked n) k ≡ rows linked n k
     plan-column k h = rows-slot (starts_of linked n) (rows_of linked n) k ∙ plan_rows linked n symm [] [] k h
 
-    pub same-plan : length parents ≡ n → first_wrong linked n parents (rows_in l_starts l_rows) ≡ kind.Same
+    pub same-plan : length parents ≡ n → first_wrong linked n parents (rows_in l_starts l_rows) ≡ Ok tt
         → (l_starts ≡ starts_of linked n) × (l_rows ≡ rows_of linked n) × (parents ≡ parents_of linked n)
     same-plan long e =
         let right = same-right (rows_in l_starts l_rows) e in
@@ -122,14 +120,14 @@ module _ (linked : ℕ → ℕ → Bool) (n : ℕ) (symm : (a b : ℕ) → T (li
               (λ i h. let b : i < n = omega (arith, long) in (right-rows i b (right i b)).1 ∙ sym (parents-at linked n symm i b)),
         )
 
-    pub plan-same : l_starts ≡ starts_of linked n → l_rows ≡ rows_of linked n → parents ≡ parents_of linked n → first_wrong linked n parents (rows_in l_starts l_rows) ≡ kind.Same
+    pub plan-same : l_starts ≡ starts_of linked n → l_rows ≡ rows_of linked n → parents ≡ parents_of linked n → first_wrong linked n parents (rows_in l_starts l_rows) ≡ Ok tt
     plan-same a b c =
         let listed : ℕ → List ℕ = rows_in l_starts l_rows in
         let col : (k : ℕ) → k < n → rows_in l_starts l_rows k ≡ rows linked n k = λ k h. rw (a, b) (plan-column k h) in
         sym (wrong-none linked n parents listed (λ k h.
         is_right linked n parents listed k (lacks-same (rows linked n k) (listed k) (sym (col k h))) (lacks-same (listed k) (rows linked n k) (col k h)) (ap (λ (x : List ℕ). at x k) c ∙ parents-at linked n symm k h)))
 
-    pub rule-of-same : n ≤ 4096 → first_wrong linked n parents (rows_in l_starts l_rows) ≡ kind.Same
+    pub rule-of-same : n ≤ 4096 → first_wrong linked n parents (rows_in l_starts l_rows) ≡ Ok tt
         → (k : ℕ) → k < n → ((i : ℕ) → T (elem i (rows_in l_starts l_rows k)) ↔ ((i < n) × Stored linked k i)) × Parent linked n k (decode (at parents k))
     rule-of-same few e k h =
         let right = right-rows k h (same-right (rows_in l_starts l_rows) e k h) in (
@@ -140,14 +138,14 @@ module _ (linked : ℕ → ℕ → Bool) (n : ℕ) (symm : (a b : ℕ) → T (li
 -- ---- of A's tables and the order of elimination
 
 module _ (starts rows order parents l_starts l_rows : List ℕ) (columns : Columns past_diagonal (length order) l_starts l_rows) where
-  pub same_tables : length parents ≡ length order → match_of starts rows order parents l_starts l_rows ≡ kind.Same
+  pub same_tables : length parents ≡ length order → match_of starts rows order parents l_starts l_rows ≡ Ok tt
       → (l_starts ≡ starts_of (linked_in starts rows order) (length order)) × (l_rows ≡ rows_of (linked_in starts rows order) (length order)) × (parents ≡ parents_of (linked_in starts rows order) (length order))
   same_tables = same-plan (linked_in starts rows order) (length order) (linked-symm (rows_in starts rows) order) parents l_starts l_rows columns
 
   pub tables-same : l_starts ≡ starts_of (linked_in starts rows order) (length order) → l_rows ≡ rows_of (linked_in starts rows order) (length order) → parents ≡ parents_of (linked_in starts rows order) (length order)
-      → match_of starts rows order parents l_starts l_rows ≡ kind.Same
+      → match_of starts rows order parents l_starts l_rows ≡ Ok tt
   tables-same = plan-same (linked_in starts rows order) (length order) (linked-symm (rows_in starts rows) order) parents l_starts l_rows columns
 
-  pub same-rule : length order ≤ 4096 → match_of starts rows order parents l_starts l_rows ≡ kind.Same
+  pub same-rule : length order ≤ 4096 → match_of starts rows order parents l_starts l_rows ≡ Ok tt
       → (k : ℕ) → k < length order → ((i : ℕ) → T (elem i (rows_in l_starts l_rows k)) ↔ ((i < length order) × Stored (linked_in starts rows order) k i)) × Parent (linked_in starts rows order) (length order) k (decode (at parents k))
   same-rule = rule-of-same (linked_in starts rows order) (length order) (linked-symm (rows_in starts rows) order) parents l_starts l_rows columns

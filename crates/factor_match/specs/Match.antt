@@ -1,7 +1,7 @@
 -- A factor's tables against the system that it is called with: "every column has the rows of the path rule", "the parents are the
 -- elimination tree", "otherwise the first column that is wrong, and whether a row is missing, one too many, or the parent is off,
 -- tested in that order". The rows of the path rule are `rows` of crate graph, by its theorem. Assumes nothing.
-use Rattle.std.specs.Prelude.{ℕ, Bool, cond, not, ◌||◌, List, length, ◌==◌, nat_lt}
+use Rattle.std.specs.Prelude.{ℕ, Bool, true, cond, not, ◌||◌, List, length, ◌==◌, nat_lt, Result, Ok, Err, Option, Some, None}
 use Rattle.graph.specs.Sets.{elem, any}
 use Rattle.graph.specs.Links.{rows_in, linked_in}
 use Rattle.graph.specs.Symbolic.{rows}
@@ -9,8 +9,13 @@ use Rattle.graph.specs.Liu.{tree_parent}
 use Rattle.tables.specs.Search.{first}
 use Rattle.tables.specs.Verdict.{at}
 use Rattle.elimination_tree.specs.Tree.{code}
-use Rattle.factor_match.specs.declared.cores.Match.{Match}
-use Rattle.factor_match.specs.declared.cores.Match.TheVariants as kind
+use Rattle.factor_match.specs.declared.cores.ColumnError.{ColumnError}
+use Rattle.factor_match.specs.declared.cores.ColumnError.TheVariants as kind
+
+-- a column comes before another, where there is another
+abbrev pub before : ℕ → Option ℕ → Bool
+before k (Some o) = nat_lt k o
+before k None = true
 
 -- some row of the first list is not in the second
 unfoldable pub lacks : (wanted listed : List ℕ) → Bool
@@ -35,13 +40,13 @@ module _ (linked : ℕ → ℕ → Bool) (n : ℕ) (parents : List ℕ) (listed 
   column_right k = not (missing k || (extra k || parent_off k))
 
   -- what is wrong with column k
-  unfoldable pub kind_at : ℕ → Match
+  unfoldable pub kind_at : ℕ → ColumnError
   kind_at k = cond (missing k) (kind.Missing k) (cond (extra k) (kind.Extra k) (kind.Parent k))
 
-  -- the first column that is wrong, and what is wrong with it
-  unfoldable pub first_wrong : Match
-  first_wrong = cond (nat_lt (first column_right 0 n) n) (kind_at (first column_right 0 n)) kind.Same
+  -- every column is right, or the first that is wrong, and what is wrong with it
+  unfoldable pub first_wrong : Result Unit ColumnError
+  first_wrong = cond (nat_lt (first column_right 0 n) n) (Err (kind_at (first column_right 0 n))) (Ok tt)
 
 -- a factor's tables under A's tables and the order of elimination
-abbrev pub match_of : (starts rows order parents l_starts l_rows : List ℕ) → Match
+abbrev pub match_of : (starts rows order parents l_starts l_rows : List ℕ) → Result Unit ColumnError
 match_of starts rows order parents l_starts l_rows = first_wrong (linked_in starts rows order) (length order) parents (rows_in l_starts l_rows)

@@ -8,6 +8,7 @@ use mathlib.Core.Path.{refl, sym, ap, subst, ◌∙◌}
 use native.Mathlib.Omega.{arith}
 use lib.Dec.{ltb→lt}
 use lib.Ieee.{Float}
+use Rattle.std.specs.Prelude.{Result, Ok, Err}
 use lib.Seq.{drop-cons, get_or-take, length-take-le}
 use Rattle.scalar.specs.Block.{nans}
 use Rattle.graph.specs.Sets.{keep, filter, from, gather}
@@ -41,8 +42,8 @@ use Rattle.load_column.specs.Load.{Source}
 use Rattle.work_column.specs.Work.{next_of, Next, Grown}
 use Rattle.factor_column.specs.Turn.{Given, given, Served, UpTo}
 use Rattle.factor_columns.specs.Columns.{told, Ends, Runs}
-use Rattle.factor_columns.specs.declared.cores.Worked.{Worked}
-use Rattle.factor_columns.specs.declared.cores.Worked.TheVariants.{Done, NotFinite, Poor}
+use Rattle.factor_columns.specs.declared.cores.ColumnError.{ColumnError}
+use Rattle.factor_columns.specs.declared.cores.ColumnError.TheVariants.{NotFinite, Poor}
 use Rattle.factor_setup.specs.Exact.{sizes, numbers, l_starts, l_rows, l_offsets, values_after, units_after, pivots_after, Tabled}
 use Rattle.factor_numbers.specs.Spoilt.{spoilt_by}
 use Rattle.factor_numbers.proofs.LinkLaws.{same_rows, same-triples}
@@ -225,10 +226,10 @@ module _ (a : System) (sound : SystemSound a.dims a.starts a.rows a.values a.per
       pivots-so : d ≡ pivots_after a (machine.run a)
       pivots-so = by_columns d _ _ (pivots-join (sizes a) d (ed ∙ sym (same-scalars a.dims (order a) permutes))) column-d ∙ sym (ap (pivots_after a) up.going_on)
 
-      told-so : told (Done count) ≡ machine.told (machine.run a)
-      told-so = ap (λ (c : ℕ). told (Done c)) up.counted ∙ sym (ap machine.told up.going_on)
+      told-so : told (Ok count) ≡ machine.told (machine.run a)
+      told-so = ap (λ (c : ℕ). told (Ok c)) up.counted ∙ sym (ap machine.told up.going_on)
 
-    pub record Left (r : Worked) (values diag d : List Float) : Type 0 where
+    pub record Left (r : Result ℕ ColumnError) (values diag d : List Float) : Type 0 where
       pub outcome : told r ≡ machine.told (machine.run a)
       pub of_values : spoilt_by r values ≡ values_after a (machine.run a)
       pub of_diag : spoilt_by r diag ≡ units_after a (machine.run a)
@@ -236,7 +237,7 @@ module _ (a : System) (sound : SystemSound a.dims a.starts a.rows a.values a.per
 
     module _ (values diag d : List Float) (ev : length values ≡ numbers a) (eu : length diag ≡ units_need a.dims) (ed : length d ≡ scalar_count a.dims) where
       -- a refused run: NaN in full
-      refused : (r : Worked) (u : Told) → told r ≡ u → ((x : List Float) → spoilt_by r x ≡ nans (length x)) → machine.run a ≡ machine.stopped u → Left r values diag d
+      refused : (r : Result ℕ ColumnError) (u : Told) → told r ≡ u → ((x : List Float) → spoilt_by r x ≡ nans (length x)) → machine.run a ≡ machine.stopped u → Left r values diag d
       refused r u e spoilt ran =
           record {
             outcome = e ∙ sym (ap machine.told ran);
@@ -245,16 +246,16 @@ module _ (a : System) (sound : SystemSound a.dims a.starts a.rows a.values a.per
             of_d = spoilt d ∙ ap nans ed ∙ sym (ap (pivots_after a) ran);
           }
 
-      by_end : (cache : List Float) (r : Worked) → Ends t' unit_starts d_starts a r values diag d cache → Left r values diag d
-      by_end cache (Done count) up =
+      by_end : (cache : List Float) (r : Result ℕ ColumnError) → Ends t' unit_starts d_starts a r values diag d cache → Left r values diag d
+      by_end cache (Ok count) up =
           record {
             outcome = told-so values diag d count ev eu ed up;
             of_values = values-so values diag d count ev eu ed up;
             of_diag = units-so values diag d count ev eu ed up;
             of_d = pivots-so values diag d count ev eu ed up;
           }
-      by_end cache (NotFinite block place pivot) ran = refused (NotFinite block place pivot) _ refl (λ x. refl) ran
-      by_end cache (Poor block condition) ran = refused (Poor block condition) _ refl (λ x. refl) ran
+      by_end cache (Err (NotFinite block place pivot)) ran = refused (Err (NotFinite block place pivot)) _ refl (λ x. refl) ran
+      by_end cache (Err (Poor block condition)) ran = refused (Err (Poor block condition)) _ refl (λ x. refl) ran
 
-      pub ends : (cache : List Float) (r : Worked) → Runs t' unit_starts d_starts into upper g r values diag d cache → Left r values diag d
+      pub ends : (cache : List Float) (r : Result ℕ ColumnError) → Runs t' unit_starts d_starts into upper g r values diag d cache → Left r values diag d
       ends cache r runs = by_end cache r (runs a served)

@@ -7,21 +7,16 @@ ghost use Rattle.tables.specs.Sound.{SystemSound};
 ghost use Rattle.machine.specs.System.{blocks, links};
 ghost use Rattle.machine.specs.Machine as machine;
 ghost use Rattle.factor_columns.specs.Columns.{told};
-ghost use Rattle.factor_setup.specs.Exact.{system, values_after, units_after, pivots_after, Tabled, NumberRoom};
+ghost use Rattle.factor_setup.specs.Exact.{handed, values_after, units_after, pivots_after, Tabled, NumberRoom};
 ghost use Rattle.factor_numbers.specs.Spoilt.{spoilt_by};
 
-use factor_columns::cores::{Worked, factor_columns};
+use factor_columns::cores::{ColumnError, factor_columns};
+use factor_setup::System;
 use scalar::{blank, clear};
 
 // The numbers of the factor by these tables; after a refusal they are NaN in full. The cache ends as zeros.
 pub fn write_numbers(
-    dims: &[u32],
-    starts: &[u32],
-    rows: &[u32],
-    values: &[f64],
-    perm: &[u32],
-    late: &[u32],
-    tol: f64,
+    s: &System,
     tree: &[u32],
     into: &[u32],
     upper: &[u32],
@@ -42,22 +37,22 @@ pub fn write_numbers(
     diag: &mut [f64],
     d: &mut [f64],
     cache: &mut [f64],
-) -> Worked
-    requires system_sound { SystemSound dims.now starts.now rows.now values.now perm.now late.now tol }
-    requires upper_of { UpperOf (blocks (system dims.now starts.now rows.now values.now perm.now late.now tol)) (links (system dims.now starts.now rows.now values.now perm.now late.now tol)) into.now upper.now × (tree.now ≡ parents_of (links (system dims.now starts.now rows.now values.now perm.now late.now tol)) (blocks (system dims.now starts.now rows.now values.now perm.now late.now tol))) }
-    requires tabled { Tabled (system dims.now starts.now rows.now values.now perm.now late.now tol) order.now l_starts.now l_rows.now l_offsets.now sizes.now bodies.now unit_starts.now d_starts.now next.old stamps.old }
-    requires number_room { NumberRoom (system dims.now starts.now rows.now values.now perm.now late.now tol) l_values.old diag.old d.old column.old inverse.old places.old }
-    ensures result_value { told result ≡ machine.told (machine.run (system dims.now starts.now rows.now values.now perm.now late.now tol)) }
-    ensures l_values_after { l_values.new ≡ values_after (system dims.now starts.now rows.now values.now perm.now late.now tol) (machine.run (system dims.now starts.now rows.now values.now perm.now late.now tol)) }
-    ensures diag_after { diag.new ≡ units_after (system dims.now starts.now rows.now values.now perm.now late.now tol) (machine.run (system dims.now starts.now rows.now values.now perm.now late.now tol)) }
-    ensures d_after { d.new ≡ pivots_after (system dims.now starts.now rows.now values.now perm.now late.now tol) (machine.run (system dims.now starts.now rows.now values.now perm.now late.now tol)) }
+) -> Result<u64, ColumnError>
+    requires system_sound { SystemSound s.now.dims.now s.now.starts.now s.now.rows.now s.now.values.now s.now.perm.now s.now.late.now s.now.tol }
+    requires upper_of { UpperOf (blocks (handed s.now)) (links (handed s.now)) into.now upper.now × (tree.now ≡ parents_of (links (handed s.now)) (blocks (handed s.now))) }
+    requires tabled { Tabled (handed s.now) order.now l_starts.now l_rows.now l_offsets.now sizes.now bodies.now unit_starts.now d_starts.now next.old stamps.old }
+    requires number_room { NumberRoom (handed s.now) l_values.old diag.old d.old column.old inverse.old places.old }
+    ensures result_value { told result ≡ machine.told (machine.run (handed s.now)) }
+    ensures l_values_after { l_values.new ≡ values_after (handed s.now) (machine.run (handed s.now)) }
+    ensures diag_after { diag.new ≡ units_after (handed s.now) (machine.run (handed s.now)) }
+    ensures d_after { d.new ≡ pivots_after (handed s.now) (machine.run (handed s.now)) }
     ensures cache_after { cache.new ≡ zeros (length cache.old) }
 {
     let r = factor_columns(
-        dims,
-        starts,
-        rows,
-        values,
+        s.dims,
+        s.starts,
+        s.rows,
+        s.values,
         bodies,
         order,
         sizes,
@@ -69,7 +64,7 @@ pub fn write_numbers(
         into,
         upper,
         tree,
-        tol,
+        s.tol,
         stamps,
         inverse,
         next,
@@ -82,27 +77,18 @@ pub fn write_numbers(
         d,
         cache,
     );
-    spoil(r, l_values);
-    spoil(r, diag);
-    spoil(r, d);
+    spoil(&r, l_values);
+    spoil(&r, diag);
+    spoil(&r, d);
     clear(cache);
     r
 }
 
 // NaN in full where the columns were refused.
-fn spoil(r: Worked, x: &mut [f64])
-    ensures { x.new ≡ spoilt_by r x.old }
+fn spoil(r: &Result<u64, ColumnError>, x: &mut [f64])
+    ensures { x.new ≡ spoilt_by r.now x.old }
 {
-    match r {
-        Worked::Done { count: _ } => {}
-        Worked::NotFinite {
-            block: _,
-            place: _,
-            pivot: _,
-        } => blank(x),
-        Worked::Poor {
-            block: _,
-            condition: _,
-        } => blank(x),
+    if r.is_err() {
+        blank(x);
     }
 }

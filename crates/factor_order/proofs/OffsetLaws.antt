@@ -13,6 +13,11 @@ use Rattle.scalars.proofs.BodyLaws.{offset-next, offset-small}
 use Rattle.factor_tables.proofs.TableLaws.{sizes-count}
 use Rattle.factor_order.proofs.AreaLaws.{measured-under}
 
+-- the offsets before p agree, and the sum is the next
+pub record Agree (dims order l_starts l_rows l_offsets : List ℕ) (p sum : ℕ) : Type 0 where
+  pub before : (q : ℕ) → q < p → at l_offsets q ≡ offset_at (sizes_of dims order) l_starts l_rows q
+  pub next : sum ≡ offset_at (sizes_of dims order) l_starts l_rows p
+
 module _ (dims order l_starts l_rows : List ℕ) (few : length dims ≤ 4096) (s : Sizes dims) (p : Permutes (length dims) order) (c : Columns past_diagonal (length dims) l_starts l_rows) where
   -- the area of the block at place u of column j
   area-at : (j u : ℕ) → j < length dims → at l_starts j ≤ u → u < at l_starts (j + 1) → area_at (sizes_of dims order) l_starts l_rows u ≡ at (sizes_of dims order) (at l_rows u) * at (sizes_of dims order) j

@@ -1,11 +1,12 @@
 -- The test of two tables says whether they are equal. Assumes nothing.
-use Rattle.std.specs.Prelude.{◌≡◌, ℕ, ◌+◌, ◌<◌, Bool, true, false, eqb, List, [], ◌∷◌, length}
+use Rattle.std.specs.Prelude.{◌≡◌, ℕ, ◌+◌, ◌<◌, Bool, true, false, ◌&&◌, eqb, List, [], ◌∷◌, length}
 use mathlib.Core.Logic.{⊎_elim}
 use mathlib.Core.Path.{refl, sym, ap, ap₂, subst, ◌∙◌}
 use native.Mathlib.Omega.{arith}
 use borrow.Author.Tests.{eqb-true, eq-eqb}
 use lib.Dec.{eqb→eq}
 use lib.Seq.{ext_get_or}
+use Rattle.std.specs.Cmp.Lexicographic.{pointwise}
 use Rattle.graph.proofs.SetLaws.{is_true, is_false, true_of, eqb_of}
 use Rattle.graph.proofs.CountLaws.{same_test}
 use Rattle.tables.specs.Verdict.{at}
@@ -24,6 +25,14 @@ same-itself : (l : List ℕ) → same_list l l ≡ true
 unfolding same_list
 same-itself [] = refl
 same-itself (x ∷ l) = rw (eq-eqb x x refl) (same-itself l)
+
+-- the test of two slices is the same
+pub pointwise_same : (l m : List ℕ) → pointwise eqb l m ≡ same_list l m
+unfolding same_list
+pointwise_same [] [] = refl
+pointwise_same [] (y ∷ m) = refl
+pointwise_same (x ∷ l) [] = refl
+pointwise_same (x ∷ l) (y ∷ m) = ap (λ b. eqb x y && b) (pointwise_same l m)
 
 module _ (l m : List ℕ) where
   pub equal-same : l ≡ m → true ≡ same_list l m

@@ -69,17 +69,7 @@ pub fn area_under(
 pub fn same(a: &[u32], b: &[u32]) -> bool
     ensures { result ≡ same_list a.now b.now }
 {
-    if a.len() != b.len() {
-        return false;
-    }
-    let mut k = 0;
-    while k < a.len() {
-        if a[k] != b[k] {
-            return false;
-        }
-        k += 1;
-    }
-    true
+    a == b
 }
 
 // Is `order` the permutation after the late move? That is made in a table of its length.
@@ -135,19 +125,14 @@ pub fn offsets_are(
         return false;
     }
     let mut sum = 0;
-    let mut p = 0;
-    let mut j = 0;
-    while j < dims.len() {
+    for j in 0..dims.len() {
         let width = size_under(dims, order, j);
-        let end = wide(l_starts[j + 1]);
-        while p < end {
+        for p in wide(l_starts[j])..wide(l_starts[j + 1]) {
             if wide(l_offsets[p]) != sum {
                 return false;
             }
             sum += size_under(dims, order, wide(l_rows[p])) * width;
-            p += 1;
         }
-        j += 1;
     }
-    wide(l_offsets[p]) == sum
+    wide(l_offsets[l_rows.len()]) == sum
 }

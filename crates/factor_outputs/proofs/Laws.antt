@@ -20,11 +20,9 @@ use Rattle.machine.specs.System.{System, blocks, links, order}
 use Rattle.machine.specs.Machine.{run}
 use Rattle.layout.specs.Layout.{units_need}
 use Rattle.factor_setup.specs.Exact.{l_starts, units_after, pivots_after}
-use Rattle.factor_core.specs.Factorize.{Places, Demand3, FactorsBy}
+use Rattle.factor_core.specs.Factorize.{Factorized, Places, lent, Demand3}
 use Rattle.factor_core.specs.Cache.{whole_kept, FactorsKept}
-use Rattle.factor_core.specs.declared.Factorized.{Factorized}
-use Rattle.factor_lent.specs.Room.{Enough, Exactly, Outputs}
-use Rattle.factor_lent.proofs.Laws.{cut-length, lifted}
+use Rattle.factor_lent.proofs.Laws.{Cut, joined}
 
 -- demand 3 reads no place beyond the n + 1 column starts
 demand3-joined : (a : System) (products : ℕ) (starts rest rows : List ℕ) → length starts ≡ blocks a + 1 → Demand3 a products starts rows → Demand3 a products (starts ++ rest) rows
@@ -49,105 +47,50 @@ demand3-joined a products starts rest rows long g =
 
 -- ---- the outputs but L's rows, offsets and values
 
--- each cut to its need
-abbrev pub cut_outputs : System → (units scalars : ℕ) → Places → Places
-cut_outputs a units scalars b = record {
-  order = take (blocks a) b.order;
-  parents = take (blocks a) b.parents;
-  l_starts = take (blocks a + 1) b.l_starts;
-  l_rows = b.l_rows;
-  l_offsets = b.l_offsets;
-  l_values = b.l_values;
-  diag = take units b.diag;
-  d = take scalars b.d;
-  column = b.column;
-  inverse = b.inverse;
-  sizes = b.sizes;
-  count = b.count;
-  heads = b.heads;
-  into = b.into;
-  stamps = b.stamps;
-  table = b.table;
-  upper = b.upper;
-  bodies = b.bodies;
-  unit_starts = b.unit_starts;
-  d_starts = b.d_starts;
-  places = b.places;
-}
-
--- what stands beyond joined to c
-abbrev pub join_outputs : System → (units scalars : ℕ) → (b c : Places) → Places
-join_outputs a units scalars b c = record {
-  order = c.order ++ drop (blocks a) b.order;
-  parents = c.parents ++ drop (blocks a) b.parents;
-  l_starts = c.l_starts ++ drop (blocks a + 1) b.l_starts;
-  l_rows = c.l_rows;
-  l_offsets = c.l_offsets;
-  l_values = c.l_values;
-  diag = c.diag ++ drop units b.diag;
-  d = c.d ++ drop scalars b.d;
-  column = c.column;
-  inverse = c.inverse;
-  sizes = c.sizes;
-  count = c.count;
-  heads = c.heads;
-  into = c.into;
-  stamps = c.stamps;
-  table = c.table;
-  upper = c.upper;
-  bodies = c.bodies;
-  unit_starts = c.unit_starts;
-  d_starts = c.d_starts;
-  places = c.places;
-}
-
-module _ (a : System) (units scalars : ℕ) (b : Places) where
-  pub outputs-exact : units ≡ units_need a.dims → scalars ≡ scalar_count a.dims → Outputs Enough a b.order b.parents b.l_starts b.diag b.d → Outputs Exactly a (take (blocks a) b.order) (take (blocks a) b.parents) (take (blocks a + 1) b.l_starts) (take units b.diag) (take scalars b.d)
-  outputs-exact units-is scalars-is m = record {
-    of_order = cut-length (blocks a) b.order refl m.of_order;
-    of_parents = cut-length (blocks a) b.parents refl m.of_parents;
-    of_l_starts = cut-length (blocks a + 1) b.l_starts refl m.of_l_starts;
-    of_diag = cut-length units b.diag units-is m.of_diag;
-    of_d = cut-length scalars b.d scalars-is m.of_d;
-  }
-
-  -- a factorization in what is cut is one in the whole
-  lengthened : (w : Told) (c : Places) (r : Factorized) → units ≡ units_need a.dims → scalars ≡ scalar_count a.dims → Outputs Enough a b.order b.parents b.l_starts b.diag b.d
-      → length c.parents ≡ length (take (blocks a) b.parents) → length c.l_starts ≡ length (take (blocks a + 1) b.l_starts)
-      → FactorsBy done w a (cut_outputs a units scalars b) r c → FactorsBy done w a b r (join_outputs a units scalars b c)
-  lengthened w c r units-is scalars-is m parents-kept starts-kept q = record {
-    outcome = q.outcome;
-    order = lifted w (blocks a) (blocks a) b.order (order a) c.order refl m.of_order q.order;
-    parents = lifted w (blocks a) (blocks a) b.parents (parents_of (links a) (blocks a)) c.parents refl m.of_parents q.parents;
-    l_starts = lifted w (blocks a + 1) (blocks a + 1) b.l_starts (l_starts a) c.l_starts refl m.of_l_starts q.l_starts;
-    l_rows = q.l_rows;
-    l_offsets = q.l_offsets;
-    l_values = q.l_values;
-    diag = lifted w units (units_need a.dims) b.diag (units_after a (run a)) c.diag units-is m.of_diag q.diag;
-    d = lifted w scalars (scalar_count a.dims) b.d (pivots_after a (run a)) c.d scalars-is m.of_d q.d;
-    column = q.column;
-    inverse = q.inverse;
-    sizes = q.sizes;
-    count = q.count;
-    heads = q.heads;
-    into = q.into;
-    stamps = q.stamps;
-    table = q.table;
-    upper = q.upper;
-    bodies = q.bodies;
-    unit_starts = q.unit_starts;
-    d_starts = q.d_starts;
-    places = q.places;
-    liu = λ passes k h. subst (λ (p : ℕ). Parent (links a) (blocks a) k (decode p)) (sym (front c.parents (drop (blocks a) b.parents) k (subst (λ (l : ℕ). k < l) (sym (parents-kept ∙ length-take-le (blocks a) b.parents m.of_parents)) h))) (q.liu passes k h);
-    demand3 = λ counts is. demand3-joined a counts.products c.l_starts (drop (blocks a + 1) b.l_starts) c.l_rows (starts-kept ∙ length-take-le (blocks a + 1) b.l_starts m.of_l_starts) (q.demand3 counts is);
-  }
-
-  -- the same of what is promised: the needs that only the plan shows are of buffers that are not cut
-  pub outputs-lengthened : (most : ℕ) (c : Places) (r : Factorized) (cache cache' : List Float) → units ≡ units_need a.dims → scalars ≡ scalar_count a.dims → Outputs Enough a b.order b.parents b.l_starts b.diag b.d
-      → length c.parents ≡ length (take (blocks a) b.parents) → length c.l_starts ≡ length (take (blocks a + 1) b.l_starts)
-      → FactorsKept done most a (cut_outputs a units scalars b) cache r c cache' → FactorsKept done most a b cache r (join_outputs a units scalars b c) cache'
-  unfolding whole_kept
-  outputs-lengthened most c r cache cache' units-is scalars-is m parents-kept starts-kept q = record {
-    factors = lengthened (whole_kept done most a b (length cache)) c r units-is scalars-is m parents-kept starts-kept q.factors;
-    cache = q.cache;
-  }
+-- a factorization in what is cut is one in the whole: the needs that only the plan shows are of buffers that are not cut
+pub outputs-joined : (most : ℕ) (a : System) (units scalars : ℕ) (b c : Places) (r : Factorized) (cache cache' : List Float)
+    {order' parents' l_starts' l_rows' l_offsets' : List ℕ} {l_values' diag' d' : List Float}
+    → units ≡ units_need a.dims → scalars ≡ scalar_count a.dims → length c.parents ≡ blocks a → length c.l_starts ≡ blocks a + 1
+    → (e-order : Cut (blocks a) b.order c.order order')
+    → (e-parents : Cut (blocks a) b.parents c.parents parents')
+    → (e-l_starts : Cut (blocks a + 1) b.l_starts c.l_starts l_starts')
+    → l_rows' ≡ c.l_rows
+    → l_offsets' ≡ c.l_offsets
+    → l_values' ≡ c.l_values
+    → (e-diag : Cut units b.diag c.diag diag')
+    → (e-d : Cut scalars b.d c.d d')
+    → FactorsKept done most a (lent e-order.front e-parents.front e-l_starts.front b.l_rows b.l_offsets b.l_values e-diag.front e-d.front b.column b.inverse b.sizes b.count b.heads b.into b.stamps b.table b.upper b.bodies b.unit_starts b.d_starts b.places) cache r c cache'
+    → FactorsKept done most a b cache r (lent order' parents' l_starts' l_rows' l_offsets' l_values' diag' d' c.column c.inverse c.sizes c.count c.heads c.into c.stamps c.table c.upper c.bodies c.unit_starts c.d_starts c.places) cache'
+unfolding whole_kept
+outputs-joined most a units scalars b c r cache cache' {l_rows' = l_rows'} units-is scalars-is parents-kept starts-kept e-order e-parents e-l_starts e-l_rows e-l_offsets e-l_values e-diag e-d q =
+    let f = q.factors in
+    let w = whole_kept done most a b (length cache) in
+    record {
+      factors = record {
+        outcome = f.outcome;
+        order = joined w (blocks a) (blocks a) b.order (order a) c.order _ refl e-order f.order;
+        parents = joined w (blocks a) (blocks a) b.parents (parents_of (links a) (blocks a)) c.parents _ refl e-parents f.parents;
+        l_starts = joined w (blocks a + 1) (blocks a + 1) b.l_starts (l_starts a) c.l_starts _ refl e-l_starts f.l_starts;
+        l_rows = e-l_rows ∙ f.l_rows;
+        l_offsets = e-l_offsets ∙ f.l_offsets;
+        l_values = e-l_values ∙ f.l_values;
+        diag = joined w units (units_need a.dims) b.diag (units_after a (run a)) c.diag _ units-is e-diag f.diag;
+        d = joined w scalars (scalar_count a.dims) b.d (pivots_after a (run a)) c.d _ scalars-is e-d f.d;
+        column = f.column;
+        inverse = f.inverse;
+        sizes = f.sizes;
+        count = f.count;
+        heads = f.heads;
+        into = f.into;
+        stamps = f.stamps;
+        table = f.table;
+        upper = f.upper;
+        bodies = f.bodies;
+        unit_starts = f.unit_starts;
+        d_starts = f.d_starts;
+        places = f.places;
+        liu = λ passes k h. subst (λ (p : ℕ). Parent (links a) (blocks a) k (decode p)) (sym (ap (λ (l : List ℕ). at l k) e-parents.left ∙ front c.parents e-parents.beyond k (subst (λ (l : ℕ). k < l) (sym parents-kept) h))) (f.liu passes k h);
+        demand3 = λ counts is. subst (λ (l : List ℕ). Demand3 a counts.products l l_rows') (sym e-l_starts.left) (subst (Demand3 a counts.products (c.l_starts ++ e-l_starts.beyond)) (sym e-l_rows) (demand3-joined a counts.products c.l_starts e-l_starts.beyond c.l_rows starts-kept (f.demand3 counts is)));
+      };
+      cache = q.cache;
+    }

@@ -1,23 +1,20 @@
 // The factorization in outputs that may be longer than their needs: it is worked out in the first places of each.
 ghost use Rattle.refusal.specs.Refusal.{done};
 ghost use Rattle.tables.specs.Sound.{SystemSound};
-ghost use Rattle.factor_setup.specs.Exact.{system};
-ghost use Rattle.factor_core.specs.Factorize.{lent};
+ghost use Rattle.factor_setup.specs.Exact.{handed};
+ghost use Rattle.factor_core.specs.Factorize.{lent, SameScratch};
 ghost use Rattle.factor_core.specs.Cache.{FactorsKept};
-ghost use Rattle.factor_lent.specs.Room.{Enough, Outputs, PlanScratch, NumberScratch};
+ghost use Rattle.factor_lent.specs.Room.{Enough, OutputRoom, PlanScratch, NumberScratch};
 
-use factor_core::Factorized;
+use factor_core::{Counts, FactorizeError, Outputs, Scratch};
 use factor_lent::cores::lend_scratch;
+use factor_setup::System;
+use factor_tables::cores::{scalars, unit_numbers};
 
 // Each buffer but L's rows, offsets and values may be longer. The outputs are cut here.
+// Kept: the outputs buffer by buffer: what is cut from a struct's field can't be lent in another struct, only what is cut from a parameter.
 pub fn lend(
-    dims: &[u32],
-    starts: &[u32],
-    rows: &[u32],
-    values: &[f64],
-    perm: &[u32],
-    late: &[u32],
-    tol: f64,
+    s: &System,
     order: &mut [u32],
     parents: &mut [u32],
     l_starts: &mut [u32],
@@ -26,60 +23,51 @@ pub fn lend(
     l_values: &mut [f64],
     diag: &mut [f64],
     d: &mut [f64],
-    column: &mut [f64],
-    inverse: &mut [u32],
-    sizes: &mut [u32],
-    count: &mut [u32],
-    heads: &mut [u32],
-    into: &mut [u32],
-    stamps: &mut [u32],
-    table: &mut [u32],
-    upper: &mut [u32],
-    bodies: &mut [u32],
-    unit_starts: &mut [u32],
-    d_starts: &mut [u32],
-    places: &mut [u32],
+    w: &mut Scratch,
     most: usize,
     cache: &mut [f64],
-) -> Factorized
-    requires system_sound { SystemSound dims.now starts.now rows.now values.now perm.now late.now tol }
-    requires outputs { Outputs Enough (system dims.now starts.now rows.now values.now perm.now late.now tol) order.old parents.old l_starts.old diag.old d.old }
-    requires plan_scratch { PlanScratch Enough (system dims.now starts.now rows.now values.now perm.now late.now tol) inverse.old sizes.old count.old heads.old into.old stamps.old table.old upper.old }
-    requires number_scratch { NumberScratch Enough (system dims.now starts.now rows.now values.now perm.now late.now tol) column.old bodies.old unit_starts.old d_starts.old places.old }
-    ensures { FactorsKept done most (system dims.now starts.now rows.now values.now perm.now late.now tol) (lent order.old parents.old l_starts.old l_rows.old l_offsets.old l_values.old diag.old d.old column.old inverse.old sizes.old count.old heads.old into.old stamps.old table.old upper.old bodies.old unit_starts.old d_starts.old places.old) cache.old result (lent order.new parents.new l_starts.new l_rows.new l_offsets.new l_values.new diag.new d.new column.new inverse.new sizes.new count.new heads.new into.new stamps.new table.new upper.new bodies.new unit_starts.new d_starts.new places.new) cache.new }
+) -> Result<Counts, FactorizeError>
+    requires system_sound { SystemSound s.now.dims.now s.now.starts.now s.now.rows.now s.now.values.now s.now.perm.now s.now.late.now s.now.tol }
+    requires outputs { OutputRoom Enough (handed s.now) order.old parents.old l_starts.old diag.old d.old }
+    requires plan_scratch { PlanScratch Enough (handed s.now) w.old.inverse.now w.old.sizes.now w.old.count.now w.old.heads.now w.old.into.now w.old.stamps.now w.old.table.now w.old.upper.now }
+    requires number_scratch { NumberScratch Enough (handed s.now) w.old.column.now w.old.bodies.now w.old.unit_starts.now w.old.d_starts.now w.old.places.now }
+    ensures kept { FactorsKept done most (handed s.now) (lent order.old parents.old l_starts.old l_rows.old l_offsets.old l_values.old diag.old d.old w.old.column.now w.old.inverse.now w.old.sizes.now w.old.count.now w.old.heads.now w.old.into.now w.old.stamps.now w.old.table.now w.old.upper.now w.old.bodies.now w.old.unit_starts.now w.old.d_starts.now w.old.places.now) cache.old result (lent order.new parents.new l_starts.new l_rows.new l_offsets.new l_values.new diag.new d.new w.new.column.now w.new.inverse.now w.new.sizes.now w.new.count.now w.new.heads.now w.new.into.now w.new.stamps.now w.new.table.now w.new.upper.now w.new.bodies.now w.new.unit_starts.now w.new.d_starts.now w.new.places.now) cache.new }
+    ensures same { SameScratch w.old w.new }
 {
-    let n = dims.len();
-    let units = factor_tables::cores::unit_numbers(dims);
-    let scalars = factor_tables::cores::scalars(dims);
-    lend_scratch(
-        dims,
-        starts,
-        rows,
-        values,
-        perm,
-        late,
-        tol,
-        &mut order[..n],
-        &mut parents[..n],
-        &mut l_starts[..n + 1],
+    let n = s.dims.len();
+    let units = unit_numbers(s.dims);
+    let scalars = scalars(s.dims);
+    let (order, _) = order.split_at_mut(n);
+    let (parents, _) = parents.split_at_mut(n);
+    let (l_starts, _) = l_starts.split_at_mut(n + 1);
+    let (diag, _) = diag.split_at_mut(units);
+    let (d, _) = d.split_at_mut(scalars);
+    let mut o = Outputs {
+        order,
+        parents,
+        l_starts,
         l_rows,
         l_offsets,
         l_values,
-        &mut diag[..units],
-        &mut d[..scalars],
-        column,
-        inverse,
-        sizes,
-        count,
-        heads,
-        into,
-        stamps,
-        table,
-        upper,
-        bodies,
-        unit_starts,
-        d_starts,
-        places,
+        diag,
+        d,
+    };
+    lend_scratch(
+        s,
+        &mut o,
+        w.column,
+        w.inverse,
+        w.sizes,
+        w.count,
+        w.heads,
+        w.into,
+        w.stamps,
+        w.table,
+        w.upper,
+        w.bodies,
+        w.unit_starts,
+        w.d_starts,
+        w.places,
         most,
         cache,
     )

@@ -2,8 +2,7 @@
 use Rattle.std.specs.Prelude.{ℕ, List, ◌≡◌, Float}
 use Rattle.refusal.specs.Refusal as refusal
 use Rattle.report.specs.Report.{carried}
-use Rattle.factor_core.specs.Factorize.{told}
-use Rattle.factor_core.specs.declared.Factorized.{Factorized}
+use Rattle.factor_core.specs.Factorize.{Factorized, told}
 use Rattle.factor_report.specs.Float.{carried_float}
 
 -- the call answers by an outcome that meets its promise: the number, the three places and the float are that outcome's

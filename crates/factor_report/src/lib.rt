@@ -7,14 +7,14 @@ ghost use Rattle.report.specs.Report.{carried};
 ghost use Rattle.factor_core.specs.Factorize as core;
 ghost use Rattle.factor_report.specs.Float.{carried_float};
 
-use factor_core::Factorized;
+use factor_core::{Counts, FactorizeError};
 
 // The number of an outcome, and what it carries.
-pub fn tell(f: Factorized, told: &mut [u64; 3], value: &mut [f64; 1]) -> u32
+pub fn tell(f: Result<Counts, FactorizeError>, told: &mut [u64; 3], value: &mut [f64; 1]) -> u32
     ensures { (result ≡ refusal.number (core.told f)) × (told.new ≡ carried (core.told f)) × (value.new ≡ carried_float (core.told f)) }
 {
     match f {
-        Factorized::Accepted(c) => carry(
+        Ok(c) => carry(
             told,
             value,
             0,
@@ -23,17 +23,25 @@ pub fn tell(f: Factorized, told: &mut [u64; 3], value: &mut [f64; 1]) -> u32
             c.products,
             0.0,
         ),
-        Factorized::Blocks => carry(told, value, 1, 0, 0, 0, 0.0),
-        Factorized::Dimension { place } => carry(told, value, 2, place as u64, 0, 0, 0.0),
-        Factorized::Starts { place } => carry(told, value, 3, place as u64, 0, 0, 0.0),
-        Factorized::Stored => carry(told, value, 4, 0, 0, 0, 0.0),
-        Factorized::Row { place } => carry(told, value, 5, place as u64, 0, 0, 0.0),
-        Factorized::Order { place } => carry(told, value, 6, place as u64, 0, 0, 0.0),
-        Factorized::Values => carry(told, value, 7, 0, 0, 0, 0.0),
-        Factorized::Permutation { place } => carry(told, value, 8, place as u64, 0, 0, 0.0),
-        Factorized::Late { place } => carry(told, value, 9, place as u64, 0, 0, 0.0),
-        Factorized::Tolerance => carry(told, value, 10, 0, 0, 0, 0.0),
-        Factorized::Short { which, need } => carry(
+        Err(FactorizeError::Blocks) => carry(told, value, 1, 0, 0, 0, 0.0),
+        Err(FactorizeError::Dimension { place }) => carry(told, value, 2, place as u64, 0, 0, 0.0),
+        Err(FactorizeError::Starts { place }) => carry(told, value, 3, place as u64, 0, 0, 0.0),
+        Err(FactorizeError::Stored) => carry(told, value, 4, 0, 0, 0, 0.0),
+        Err(FactorizeError::Row { place }) => carry(told, value, 5, place as u64, 0, 0, 0.0),
+        Err(FactorizeError::Order { place }) => carry(told, value, 6, place as u64, 0, 0, 0.0),
+        Err(FactorizeError::Values) => carry(told, value, 7, 0, 0, 0, 0.0),
+        Err(FactorizeError::Permutation { place }) => carry(
+            told,
+            value,
+            8,
+            place as u64,
+            0,
+            0,
+            0.0,
+        ),
+        Err(FactorizeError::Late { place }) => carry(told, value, 9, place as u64, 0, 0, 0.0),
+        Err(FactorizeError::Tolerance) => carry(told, value, 10, 0, 0, 0, 0.0),
+        Err(FactorizeError::Short { which, need }) => carry(
             told,
             value,
             11,
@@ -42,12 +50,14 @@ pub fn tell(f: Factorized, told: &mut [u64; 3], value: &mut [f64; 1]) -> u32
             0,
             0.0,
         ),
-        Factorized::NotFinite {
-            block,
-            place,
-            pivot,
-        } => carry(told, value, 13, block as u64, place as u64, 0, pivot),
-        Factorized::Poor { block, condition } => carry(
+        Err(
+            FactorizeError::NotFinite {
+                block,
+                place,
+                pivot,
+            },
+        ) => carry(told, value, 13, block as u64, place as u64, 0, pivot),
+        Err(FactorizeError::Poor { block, condition }) => carry(
             told,
             value,
             14,

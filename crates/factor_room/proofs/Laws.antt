@@ -3,15 +3,19 @@ use Rattle.std.specs.Prelude.{◌≡◌, ℕ, ◌+◌, Bool, true, cond, List, [
 use mathlib.Core.Bool.{false≢true}
 use mathlib.Core.Path.{sym, ap, subst, ◌∙◌}
 use lib.Ieee.{Float}
+use Rattle.std.specs.Prelude.{Ok, Err}
+use Rattle.std.specs.Result.{IsErr, IsErrAnd}
+use Rattle.factor_core.proofs.ErrorLaws.{error_refuses}
 use Rattle.refusal.specs.Refusal.{Told, refuses, verdict, after}
 use Rattle.refusal.proofs.Laws.{stays-refused, first-refuses}
 use Rattle.needs.specs.Needs.{lent_from, need_checks}
+use Rattle.needs.specs.Needs.{told_error as told_short}
+use Rattle.needs.specs.declared.ShortBuffer.{ShortBuffer}
 use Rattle.scalars.specs.Scalars.{scalar_count}
 use Rattle.machine.specs.System.{System, blocks}
 use Rattle.layout.specs.Layout.{units_need, work_need}
-use Rattle.factor_core.specs.Factorize.{told, Places, lengths_of, first_list, FactorsBy}
+use Rattle.factor_core.specs.Factorize.{Factorized, told_error, told, of_short, Places, lengths_of, first_list, FactorsBy}
 use Rattle.factor_core.specs.Cache.{kept_list, whole_kept, FactorsKept}
-use Rattle.factor_core.specs.declared.Factorized.{Factorized}
 
 -- ---- refused before the plan: nothing is changed
 
@@ -58,6 +62,13 @@ refused v most a b cache r e stops =
       factors = refused-by v (whole_kept v most a b (length cache)) a b r e stops (stays-refused v (need_checks (kept_list most a b (length cache))) stops);
       cache = unchanged v cache _ stops;
     }
+
+-- a buffer is short, and so says the call
+pub needs-refused : (most : ℕ) (a : System) (b : Places) (cache : List Float) (v : Told) (e : ShortBuffer) (r : Factorized) → IsErr r × IsErrAnd r (λ f. f ≡ of_short e) → told_short e ≡ v → FactorsKept v most a b cache r b cache
+needs-refused most a b cache v e (Ok x) p t = absurd (false≢true p.0)
+needs-refused most a b cache v e (Err r) p t =
+    let same : told_error r ≡ v = ap told_error p.1 ∙ t in
+    refused v most a b cache (Err r) same (ap refuses (sym same) ∙ error_refuses r)
 
 -- where two verdicts are one, so is what is promised under them
 pub same-verdict : (most : ℕ) (a : System) (b : Places) (cache : List Float) (r : Factorized) (c : Places) (cache' : List Float) {v w : Told} → v ≡ w → FactorsKept v most a b cache r c cache' → FactorsKept w most a b cache r c cache'

@@ -15,10 +15,15 @@ use Rattle.scalars.specs.Bodies.{offsets}
 use Rattle.machine.specs.System.{System, blocks, links, order}
 use Rattle.machine.specs.Machine.{State, column_at, rows_at, Run, going, stopped}
 use Rattle.layout.specs.Layout.{unit_starts_of, units_need, work_need}
+use Rattle.factor_setup.specs.declared.System as declared
 
 abbrev pub system : (dims starts rows : List ℕ) (values : List Float) (perm late : List ℕ) (tol : Float) → System
 system dims starts rows values perm late tol =
     record { dims = dims; starts = starts; rows = rows; values = values; perm = perm; late = late; tol = tol }
+
+-- what a factorization is handed
+abbrev pub handed : declared.System → System
+handed s = system s.dims.now s.starts.now s.rows.now s.values.now s.perm.now s.late.now s.tol
 
 module _ (a : System) where
   -- the dimensions by new number

@@ -5,10 +5,9 @@ use native.Mathlib.Nat.{zero-mul}
 use lib.Ieee.{Float}
 use Rattle.refusal.specs.Refusal.{Told}
 use Rattle.machine.specs.System.{System}
-use Rattle.factor_core.specs.Factorize.{Places, early, FactorsBy, Factors}
+use Rattle.factor_core.specs.Factorize.{Factorized, Places, early, FactorsBy, Factors}
 use Rattle.factor_core.specs.Cache.{handed_in, whole_kept, FactorsKept}
 use Rattle.factor_core.proofs.CacheLaws.{none_kept}
-use Rattle.factor_core.specs.declared.Factorized.{Factorized}
 
 -- the whole verdict is that of the other needs
 pub no-cache : (a : System) (b : Places) (r : Factorized) (b' : Places) (cache' : List Float) → FactorsKept (early a b) (0 * (1 + handed_in a)) a b [] r b' cache' → Factors (early a b) a b r b'

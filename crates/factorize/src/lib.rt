@@ -2,13 +2,15 @@
 // column, in the first places of what is lent.
 #![tactic(auto)]
 
-ghost use Rattle.factor_setup.specs.Exact.{system};
-ghost use Rattle.factor_core.specs.Factorize.{lent, Factors, early};
+ghost use Rattle.factor_setup.specs.Exact.{handed};
+ghost use Rattle.factor_core.specs.Factorize.{lent_of, SameOutputs, SameScratch, Factors, early};
 
 use factor_checked::cores::factor_checked;
-pub use factor_core::Factorized;
+pub use factor_core::{Counts, FactorizeError, Outputs, Scratch};
+pub use factor_setup::System;
 
-// The factor L D Lᵀ of A under the permutation after the late move, n = dims.len() blocks with m = rows.len() stored.
+// The factor L D Lᵀ of A under the permutation after the late move, n = dims.len() blocks with m = rows.len() stored. Accepted, it hands back
+// L's blocks, L's numbers, and the block products worked through.
 //
 // Handed in: `dims`, the dimension of each block; `starts`, `rows` and `values`, A from the diagonal down, column after column, each body
 // column-major; `perm`, the old number of each new one; `late`, a flag 0 or 1 for each block; `tol`, the relative tolerance of a pivot.
@@ -32,68 +34,10 @@ pub use factor_core::Factorized;
 //   zeros.
 // - Refused by 1 to 10, or by 11 for any other buffer: all is as it was.
 // A place beyond its buffer's need is always as it was.
-pub fn factorize(
-    dims: &[u32],
-    starts: &[u32],
-    rows: &[u32],
-    values: &[f64],
-    perm: &[u32],
-    late: &[u32],
-    tol: f64,
-    order: &mut [u32],
-    parents: &mut [u32],
-    l_starts: &mut [u32],
-    l_rows: &mut [u32],
-    l_offsets: &mut [u32],
-    l_values: &mut [f64],
-    diag: &mut [f64],
-    d: &mut [f64],
-    column: &mut [f64],
-    inverse: &mut [u32],
-    sizes: &mut [u32],
-    count: &mut [u32],
-    heads: &mut [u32],
-    into: &mut [u32],
-    stamps: &mut [u32],
-    table: &mut [u32],
-    upper: &mut [u32],
-    bodies: &mut [u32],
-    unit_starts: &mut [u32],
-    d_starts: &mut [u32],
-    places: &mut [u32],
-) -> Factorized
-    ensures { Factors (early (system dims.now starts.now rows.now values.now perm.now late.now tol) (lent order.old parents.old l_starts.old l_rows.old l_offsets.old l_values.old diag.old d.old column.old inverse.old sizes.old count.old heads.old into.old stamps.old table.old upper.old bodies.old unit_starts.old d_starts.old places.old)) (system dims.now starts.now rows.now values.now perm.now late.now tol) (lent order.old parents.old l_starts.old l_rows.old l_offsets.old l_values.old diag.old d.old column.old inverse.old sizes.old count.old heads.old into.old stamps.old table.old upper.old bodies.old unit_starts.old d_starts.old places.old) result (lent order.new parents.new l_starts.new l_rows.new l_offsets.new l_values.new diag.new d.new column.new inverse.new sizes.new count.new heads.new into.new stamps.new table.new upper.new bodies.new unit_starts.new d_starts.new places.new) }
+pub fn factorize(s: &System, o: &mut Outputs, w: &mut Scratch) -> Result<Counts, FactorizeError>
+    ensures factors { Factors (early (handed s.now) (lent_of o.old w.old)) (handed s.now) (lent_of o.old w.old) result (lent_of o.new w.new) }
+    ensures outputs { SameOutputs o.old o.new }
+    ensures scratch { SameScratch w.old w.new }
 {
-    factor_checked(
-        dims,
-        starts,
-        rows,
-        values,
-        perm,
-        late,
-        tol,
-        order,
-        parents,
-        l_starts,
-        l_rows,
-        l_offsets,
-        l_values,
-        diag,
-        d,
-        column,
-        inverse,
-        sizes,
-        count,
-        heads,
-        into,
-        stamps,
-        table,
-        upper,
-        bodies,
-        unit_starts,
-        d_starts,
-        places,
-        0,
-        &mut [],
-    )
+    factor_checked(s, o, w, 0, &mut [])
 }

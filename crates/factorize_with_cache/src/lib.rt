@@ -1,12 +1,13 @@
 // The factorization of a night's system with a cache lent.
 #![tactic(auto)]
 
-ghost use Rattle.factor_setup.specs.Exact.{system};
-ghost use Rattle.factor_core.specs.Factorize.{lent};
+ghost use Rattle.factor_setup.specs.Exact.{handed};
+ghost use Rattle.factor_core.specs.Factorize.{lent_of, SameOutputs, SameScratch};
 ghost use Rattle.factor_core.specs.Cache.{FactorsWithCache};
 
 use factor_checked::cores::factor_checked;
-pub use factor_core::Factorized;
+pub use factor_core::{Counts, FactorizeError, Outputs, Scratch};
+pub use factor_setup::System;
 
 // The factor of `factorize::factorize`, which names what is handed in and lent, with one more buffer of scratch, `cache`. Each product of
 // blocks i, j and k takes Q(i), which is L(i, k) times the unit factor of k: `factorize` works it out again for each j; here it is worked out
@@ -22,68 +23,14 @@ pub use factor_core::Factorized;
 //   `cache` itself is too short, in all of it.
 // - Refused by 1 to 10, or by 11 for any other buffer: as it was.
 pub fn factorize_with_cache(
-    dims: &[u32],
-    starts: &[u32],
-    rows: &[u32],
-    values: &[f64],
-    perm: &[u32],
-    late: &[u32],
-    tol: f64,
-    order: &mut [u32],
-    parents: &mut [u32],
-    l_starts: &mut [u32],
-    l_rows: &mut [u32],
-    l_offsets: &mut [u32],
-    l_values: &mut [f64],
-    diag: &mut [f64],
-    d: &mut [f64],
-    column: &mut [f64],
-    inverse: &mut [u32],
-    sizes: &mut [u32],
-    count: &mut [u32],
-    heads: &mut [u32],
-    into: &mut [u32],
-    stamps: &mut [u32],
-    table: &mut [u32],
-    upper: &mut [u32],
-    bodies: &mut [u32],
-    unit_starts: &mut [u32],
-    d_starts: &mut [u32],
-    places: &mut [u32],
+    s: &System,
+    o: &mut Outputs,
+    w: &mut Scratch,
     cache: &mut [f64],
-) -> Factorized
-    ensures { FactorsWithCache (system dims.now starts.now rows.now values.now perm.now late.now tol) (lent order.old parents.old l_starts.old l_rows.old l_offsets.old l_values.old diag.old d.old column.old inverse.old sizes.old count.old heads.old into.old stamps.old table.old upper.old bodies.old unit_starts.old d_starts.old places.old) cache.old result (lent order.new parents.new l_starts.new l_rows.new l_offsets.new l_values.new diag.new d.new column.new inverse.new sizes.new count.new heads.new into.new stamps.new table.new upper.new bodies.new unit_starts.new d_starts.new places.new) cache.new }
+) -> Result<Counts, FactorizeError>
+    ensures factors { FactorsWithCache (handed s.now) (lent_of o.old w.old) cache.old result (lent_of o.new w.new) cache.new }
+    ensures outputs { SameOutputs o.old o.new }
+    ensures scratch { SameScratch w.old w.new }
 {
-    factor_checked(
-        dims,
-        starts,
-        rows,
-        values,
-        perm,
-        late,
-        tol,
-        order,
-        parents,
-        l_starts,
-        l_rows,
-        l_offsets,
-        l_values,
-        diag,
-        d,
-        column,
-        inverse,
-        sizes,
-        count,
-        heads,
-        into,
-        stamps,
-        table,
-        upper,
-        bodies,
-        unit_starts,
-        d_starts,
-        places,
-        16,
-        cache,
-    )
+    factor_checked(s, o, w, 16, cache)
 }

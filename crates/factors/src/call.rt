@@ -3,10 +3,10 @@
 ghost use Rattle.std.specs.Prelude.{◌≤◌};
 
 use crate::judge;
-use crate::told::{matches, of};
-use factorize::factorize;
-use word_list::cases::{BadList, Case};
-use word_list::entry::{Entry, float};
+use crate::told::says;
+use factorize::{Outputs, Scratch, System, factorize};
+use word_list::cases::{BadList, Case, kind};
+use word_list::entry::float;
 use word_list::lent::{lent, table};
 use word_list::room;
 use word_list::room::held;
@@ -16,13 +16,9 @@ const NUMBERS: usize = 40960;
 
 // Reads the next case and judges it; none is the word that ends the list. A list is bad where the input ends early or a case does not fit.
 pub fn next() -> Result<Option<Case>, BadList> {
-    let Some(first) = u32::next() else {
-        return Err(BadList {});
-    };
-    let kind = first as usize;
-    if kind == 0 {
+    let Some(kind) = kind()? else {
         return Ok(None);
-    }
+    };
     let h: [u32; 44] = table(44);
     if !fits(&h) {
         return Err(BadList {});
@@ -63,27 +59,20 @@ fn read(h: &[u32; 44]) -> bool {
     let values: [f64; 40960] = table(k3);
     let perm: [u32; 4112] = table(k4);
     let late: [u32; 4112] = table(k5);
-    lending(
-        h,
-        &dims[..k0],
-        &starts[..k1],
-        &rows[..k2],
-        &values[..k3],
-        &perm[..k4],
-        &late[..k5],
-    )
+    let system = System {
+        dims: &dims[..k0],
+        starts: &starts[..k1],
+        rows: &rows[..k2],
+        values: &values[..k3],
+        perm: &perm[..k4],
+        late: &late[..k5],
+        tol: float(h[27], h[28]),
+    };
+    lending(h, &system)
 }
 
-// Outputs and the working column are marked, and each is lent as long as the list says.
-fn lending(
-    h: &[u32; 44],
-    dims: &[u32],
-    starts: &[u32],
-    rows: &[u32],
-    values: &[f64],
-    perm: &[u32],
-    late: &[u32],
-) -> bool {
+// The outputs are marked, and each is lent as long as the list says.
+fn lending(h: &[u32; 44], s: &System) -> bool {
     let k6 = held(h[6], room::BLOCKS);
     let k7 = held(h[7], room::BLOCKS);
     let k8 = held(h[8], room::BLOCKS);
@@ -92,7 +81,6 @@ fn lending(
     let k11 = held(h[11], NUMBERS);
     let k12 = held(h[12], NUMBERS);
     let k13 = held(h[13], NUMBERS);
-    let k14 = held(h[14], NUMBERS);
     let mut order: [u32; 4112] = lent();
     let mut parents: [u32; 4112] = lent();
     let mut l_starts: [u32; 4112] = lent();
@@ -101,62 +89,26 @@ fn lending(
     let mut l_values: [f64; 40960] = lent();
     let mut diag: [f64; 40960] = lent();
     let mut d: [f64; 40960] = lent();
-    let mut column: [f64; 40960] = lent();
-    let told = with_scratch(
-        h,
-        dims,
-        starts,
-        rows,
-        values,
-        perm,
-        late,
-        &mut order[..k6],
-        &mut parents[..k7],
-        &mut l_starts[..k8],
-        &mut l_rows[..k9],
-        &mut l_offsets[..k10],
-        &mut l_values[..k11],
-        &mut diag[..k12],
-        &mut d[..k13],
-        &mut column[..k14],
-    );
-    let in_floats = judge::floats(h, &l_values, &diag, &d, &column);
+    let mut o = Outputs {
+        order: &mut order[..k6],
+        parents: &mut parents[..k7],
+        l_starts: &mut l_starts[..k8],
+        l_rows: &mut l_rows[..k9],
+        l_offsets: &mut l_offsets[..k10],
+        l_values: &mut l_values[..k11],
+        diag: &mut diag[..k12],
+        d: &mut d[..k13],
+    };
+    let told = with_scratch(h, s, &mut o);
+    let in_floats = judge::floats(h, &l_values, &diag, &d);
     let in_tables = judge::tables(h, &order, &parents, &l_starts, &l_rows, &l_offsets);
     told && in_floats && in_tables
 }
 
-// The same for the rest of the scratch: what is told, and what is left in it.
-fn with_scratch(
-    h: &[u32; 44],
-    dims: &[u32],
-    starts: &[u32],
-    rows: &[u32],
-    values: &[f64],
-    perm: &[u32],
-    late: &[u32],
-    order: &mut [u32],
-    parents: &mut [u32],
-    l_starts: &mut [u32],
-    l_rows: &mut [u32],
-    l_offsets: &mut [u32],
-    l_values: &mut [f64],
-    diag: &mut [f64],
-    d: &mut [f64],
-    column: &mut [f64],
-) -> bool {
+// The same for the scratch: what is told, and what is left in it.
+fn with_scratch(h: &[u32; 44], s: &System, o: &mut Outputs) -> bool {
     let k = scratch_lengths(h);
-    let k15 = k.inverse;
-    let k16 = k.sizes;
-    let k17 = k.count;
-    let k18 = k.heads;
-    let k19 = k.into;
-    let k20 = k.stamps;
-    let k21 = k.table;
-    let k22 = k.upper;
-    let k23 = k.bodies;
-    let k24 = k.units;
-    let k25 = k.pivots;
-    let k26 = k.places;
+    let mut column: [f64; 40960] = lent();
     let mut inverse: [u32; 4112] = lent();
     let mut sizes: [u32; 4112] = lent();
     let mut count: [u32; 4112] = lent();
@@ -169,47 +121,33 @@ fn with_scratch(
     let mut unit_starts: [u32; 4112] = lent();
     let mut d_starts: [u32; 4112] = lent();
     let mut places: [u32; 4112] = lent();
-    let tol = float(h[27], h[28]);
-    let f = factorize(
-        dims,
-        starts,
-        rows,
-        values,
-        perm,
-        late,
-        tol,
-        order,
-        parents,
-        l_starts,
-        l_rows,
-        l_offsets,
-        l_values,
-        diag,
-        d,
-        column,
-        &mut inverse[..k15],
-        &mut sizes[..k16],
-        &mut count[..k17],
-        &mut heads[..k18],
-        &mut into[..k19],
-        &mut stamps[..k20],
-        &mut table[..k21],
-        &mut upper[..k22],
-        &mut bodies[..k23],
-        &mut unit_starts[..k24],
-        &mut d_starts[..k25],
-        &mut places[..k26],
-    );
-    let told = matches(h, of(f));
+    let mut w = Scratch {
+        column: &mut column[..k.column],
+        inverse: &mut inverse[..k.inverse],
+        sizes: &mut sizes[..k.sizes],
+        count: &mut count[..k.count],
+        heads: &mut heads[..k.heads],
+        into: &mut into[..k.into],
+        stamps: &mut stamps[..k.stamps],
+        table: &mut table[..k.table],
+        upper: &mut upper[..k.upper],
+        bodies: &mut bodies[..k.bodies],
+        unit_starts: &mut unit_starts[..k.units],
+        d_starts: &mut d_starts[..k.pivots],
+        places: &mut places[..k.places],
+    };
+    let told = says(h, &factorize(s, o, &mut w));
+    let in_column = judge::column(h, &column);
     let in_blocks = judge::scratch_blocks(h, &inverse, &sizes, &count, &stamps, &places);
     let in_starts = judge::scratch_starts(h, &heads, &into, &unit_starts, &d_starts);
     let in_stored = judge::scratch_stored(h, &table, &upper, &bodies);
-    told && in_blocks && in_starts && in_stored
+    told && in_column && in_blocks && in_starts && in_stored
 }
 
-// How long the scratch after the working column is lent: apart, since a call is dear to prove in a function that hands on thirty places.
+// How long the scratch is lent.
 #[derive(Clone, Copy)]
 struct Lengths {
+    column: usize,
     inverse: usize,
     sizes: usize,
     count: usize,
@@ -225,9 +163,10 @@ struct Lengths {
 }
 
 fn scratch_lengths(h: &[u32; 44]) -> Lengths
-    ensures { (result.inverse ≤ 4112) × (result.sizes ≤ 4112) × (result.count ≤ 4112) × (result.heads ≤ 4112) × (result.into ≤ 4112) × (result.stamps ≤ 4112) × (result.table ≤ 65552) × (result.upper ≤ 65552) × (result.bodies ≤ 65552) × (result.units ≤ 4112) × (result.pivots ≤ 4112) × (result.places ≤ 4112) }
+    ensures { (result.column ≤ 40960) × (result.inverse ≤ 4112) × (result.sizes ≤ 4112) × (result.count ≤ 4112) × (result.heads ≤ 4112) × (result.into ≤ 4112) × (result.stamps ≤ 4112) × (result.table ≤ 65552) × (result.upper ≤ 65552) × (result.bodies ≤ 65552) × (result.units ≤ 4112) × (result.pivots ≤ 4112) × (result.places ≤ 4112) }
 {
     Lengths {
+        column: held(h[14], NUMBERS),
         inverse: held(h[15], room::BLOCKS),
         sizes: held(h[16], room::BLOCKS),
         count: held(h[17], room::BLOCKS),

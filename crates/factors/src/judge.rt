@@ -14,20 +14,23 @@ fn cleared(h: &[u32; 44], need: usize) -> usize {
     if h[43] == 0 { 0 } else { need }
 }
 
-// L's numbers, the diagonal factors and d come next in the list. The working column is scratch.
+// L's numbers, the diagonal factors and d come next in the list.
 pub fn floats(
     h: &[u32; 44],
     l_values: &[f64; 40960],
     diag: &[f64; 40960],
     d: &[f64; 40960],
-    column: &[f64; 40960],
 ) -> bool {
     let every = (h[43] == 3).then_some(not_a_number());
     let in_l = told(l_values, written(h, h[39] as usize), every);
     let in_diag = told(diag, written(h, h[40] as usize), every);
     let in_d = told(d, written(h, h[41] as usize), every);
-    let clear = scratch(column, cleared(h, h[42] as usize));
-    in_l && in_diag && in_d && clear
+    in_l && in_diag && in_d
+}
+
+// The working column is scratch.
+pub fn column(h: &[u32; 44], column: &[f64; 40960]) -> bool {
+    scratch(column, cleared(h, h[42] as usize))
 }
 
 // The plan's tables come next in the list.

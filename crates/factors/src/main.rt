@@ -4,18 +4,37 @@
 
 mod call;
 mod judge;
-mod print;
 mod told;
 
 use word_list::cases::replay;
-use word_list::print::bad;
+use word_list::print::{bad, summary, wrong};
 
 // The turns at the list at most, its end among them.
 const MOST: u64 = 65536;
 
+// The kinds from 1 on.
+const NAMES: [&[u8]; 15] = [
+    b"random",
+    b"dense",
+    b"shapes",
+    b"few blocks",
+    b"late flags",
+    b"zero blocks and missing ones",
+    b"rank deficient",
+    b"at the threshold",
+    b"small and large numbers",
+    b"NaN and infinities",
+    b"refused at a block",
+    b"by hand",
+    b"large",
+    b"one fault or two",
+    b"lent buffers",
+];
+
+// Kept: each program's own list, names and number of kinds; the work is `word_list`'s.
 fn main() {
-    match replay::<16, _, _>(MOST, call::next, print::wrong) {
-        Ok(tally) => print::summary(&tally),
+    match replay::<16, _, _>(MOST, call::next, |k, kind| wrong(&NAMES, k, kind)) {
+        Ok(tally) => summary(&NAMES, &tally),
         Err(at) => bad(at),
     }
 }

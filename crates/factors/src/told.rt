@@ -1,90 +1,73 @@
 // What a call answers, and whether the list says the same.
-use factorize::Factorized;
+use factorize::{Counts, FactorizeError};
+use refusal::number_of;
 use replay::same;
 use word_list::entry::{float, whole};
 
+// What L has where the call is refused.
+const NOTHING: Counts = Counts {
+    stored: 0,
+    numbers: 0,
+    products: 0,
+};
+
+// What an answer carries.
 #[derive(Clone, Copy)]
-pub struct Told {
-    // The refusal's number, 0 for none.
-    pub number: usize,
-    // Its place, the buffer that is short, or the block.
-    pub first: usize,
+struct Carried {
+    // The place, the buffer that is short, or the block.
+    first: usize,
     // The need of that buffer, or the place in that block.
-    pub second: usize,
+    second: usize,
     // The pivot or the condition.
-    pub float: f64,
-    // L's blocks and numbers, and the products.
-    pub stored: usize,
-    pub numbers: usize,
-    pub products: u64,
+    float: f64,
 }
 
-fn refused(number: usize, first: usize, second: usize, float: f64) -> Told {
-    Told {
-        number,
+// Whether the words in front of a case say what the call answers.
+pub fn says(h: &[u32; 44], answer: &Result<Counts, FactorizeError>) -> bool {
+    let carried = carried_by(answer);
+    let counts = answer.unwrap_or(NOTHING);
+    h[29] == number_of(answer)
+        && h[30] as usize == carried.first
+        && h[31] as usize == carried.second
+        && same(float(h[32], h[33]), carried.float)
+        && h[34] as usize == counts.stored
+        && h[35] as usize == counts.numbers
+        && whole(h[36], h[37]) == counts.products
+}
+
+fn carried_by(answer: &Result<Counts, FactorizeError>) -> Carried {
+    match *answer {
+        Ok(_)
+        | Err(
+            FactorizeError::Blocks
+            | FactorizeError::Stored
+            | FactorizeError::Values
+            | FactorizeError::Tolerance,
+        ) => carries(0, 0, 0.0),
+        Err(
+            FactorizeError::Dimension { place }
+            | FactorizeError::Starts { place }
+            | FactorizeError::Row { place }
+            | FactorizeError::Order { place }
+            | FactorizeError::Permutation { place }
+            | FactorizeError::Late { place },
+        ) => carries(place, 0, 0.0),
+        Err(FactorizeError::Short { which, need }) => carries(which, need, 0.0),
+        Err(
+            FactorizeError::NotFinite {
+                block,
+                place,
+                pivot,
+            },
+        ) => carries(block, place, pivot),
+        Err(FactorizeError::Poor { block, condition }) => carries(block, 0, condition),
+    }
+}
+
+fn carries(first: usize, second: usize, float: f64) -> Carried {
+    Carried {
         first,
         second,
         float,
-        stored: 0,
-        numbers: 0,
-        products: 0,
     }
-}
-
-fn at(number: usize, place: usize) -> Told {
-    refused(number, place, 0, 0.0)
-}
-
-pub fn of(f: Factorized) -> Told {
-    match f {
-        Factorized::Accepted(c) => Told {
-            number: 0,
-            first: 0,
-            second: 0,
-            float: 0.0,
-            stored: c.stored,
-            numbers: c.numbers,
-            products: c.products,
-        },
-        Factorized::Blocks => at(1, 0),
-        Factorized::Dimension { place } => at(2, place),
-        Factorized::Starts { place } => at(3, place),
-        Factorized::Stored => at(4, 0),
-        Factorized::Row { place } => at(5, place),
-        Factorized::Order { place } => at(6, place),
-        Factorized::Values => at(7, 0),
-        Factorized::Permutation { place } => at(8, place),
-        Factorized::Late { place } => at(9, place),
-        Factorized::Tolerance => at(10, 0),
-        Factorized::Short { which, need } => refused(11, which, need, 0.0),
-        Factorized::NotFinite {
-            block,
-            place,
-            pivot,
-        } => refused(13, block, place, pivot),
-        Factorized::Poor { block, condition } => refused(14, block, 0, condition),
-    }
-}
-
-// Whether the words in front of a case say so.
-pub fn matches(h: &[u32; 44], t: Told) -> bool {
-    if h[29] as usize != t.number {
-        return false;
-    }
-    if h[30] as usize != t.first {
-        return false;
-    }
-    if h[31] as usize != t.second {
-        return false;
-    }
-    if !same(float(h[32], h[33]), t.float) {
-        return false;
-    }
-    if h[34] as usize != t.stored {
-        return false;
-    }
-    if h[35] as usize != t.numbers {
-        return false;
-    }
-    whole(h[36], h[37]) == t.products
 }

@@ -1,7 +1,7 @@
 -- THE END OF A COLUMN: where the flat lists hold the machine's finished columns and show its working column, they hold one column more
 -- after the two steps, and a refusal is the machine's.
 --     block-fits, rows_fit    what the steps need, from how the blocks lie
---     not_finite, poor, stored    the three ways out
+--     stopped, stored    the two ways out
 -- Assumes nothing.
 use Rattle.std.specs.Prelude.{◌≡◌, ℕ, ◌+◌, ◌-◌, ◌*◌, ◌<◌, ◌≤◌, T, List, [], ◌∷◌, ◌++◌, length, get_or}
 use mathlib.Core.Path.{refl, sym, ap, subst, ◌∙◌}
@@ -16,8 +16,9 @@ use Rattle.buckets.proofs.Lists.{elem_at}
 use Rattle.dense_pivots.specs.declared.LdltResult.{LdltResult}
 use Rattle.dense_solve_right.specs.SolveRight.{ldlt_right_matsolve}
 use Rattle.block_diag_ldlt.specs.Block.{block_ldlt}
-use Rattle.block_diag_ldlt.specs.declared.cores.Settled.{Settled}
-use Rattle.block_diag_ldlt.specs.declared.cores.Settled.TheVariants.{Accepted, NotFinite, Poor}
+use Rattle.std.specs.Prelude.{Result, Ok, Err}
+use Rattle.block_diag_ldlt.specs.declared.cores.BlockError.{BlockError}
+use Rattle.block_diag_ldlt.specs.declared.cores.BlockError.TheVariants.{NotFinite, Poor}
 use Rattle.tables.specs.Verdict.{at}
 use Rattle.machine.specs.System.{System}
 use Rattle.machine.specs.Machine.{State, Column, no_column, body_or, solved, settled_by, finish}
@@ -83,11 +84,11 @@ module _ (t : Tables) (unit_starts d_starts places : List ℕ) (j : ℕ) where
     abbrev pivots : List Float
     pivots = slot (at d_starts j) (side t j) d'
 
-    abbrev Answers : Settled → Type 0
+    abbrev Answers : Result LdltResult BlockError → Type 0
     Answers r = Decomposes t.sizes places unit_starts d_starts j tol c diag d r diag' d'
 
     -- the block that the flat list shows is the machine's, and so is its answer
-    same-finish : (r : Settled) → Answers r → (a : System) (count : ℕ) (s : State) → Before t unit_starts d_starts a tol j count places c values diag d s
+    same-finish : (r : Result LdltResult BlockError) → Answers r → (a : System) (count : ℕ) (s : State) → Before t unit_starts d_starts a tol j count places c values diag d s
         → finish a j s ≡ settled_by a j s (r, unit, pivots)
     unfolding finish
     same-finish r answers a count s b =
@@ -96,17 +97,13 @@ module _ (t : Tables) (unit_starts d_starts places : List ℕ) (j : ℕ) where
         ∙ sym (ap (λ (l : List Float). settled_by a j s (block_ldlt (side t j) tol l)) (b.shown.blocks j (elem-head j (rows_at t j))))
         ∙ sym (ap (settled_by a j s) answers.factors)
 
-    pub not_finite : (place : ℕ) (pivot : Float) → Answers (NotFinite place pivot)
-        → Finishes t unit_starts d_starts tol j places c values diag d (NotFinite place pivot, values, diag', d')
+    pub stopped : (e : BlockError) → Answers (Err e) → Finishes t unit_starts d_starts tol j places c values diag d (Err e, values, diag', d')
     unfolding settled_by
-    not_finite place pivot answers a count s b = same-finish (NotFinite place pivot) answers a count s b
-
-    pub poor : (condition : Float) → Answers (Poor condition) → Finishes t unit_starts d_starts tol j places c values diag d (Poor condition, values, diag', d')
-    unfolding settled_by
-    poor condition answers a count s b = same-finish (Poor condition) answers a count s b
+    stopped (NotFinite place pivot) answers a count s b = same-finish (Err (NotFinite place pivot)) answers a count s b
+    stopped (Poor condition) answers a count s b = same-finish (Err (Poor condition)) answers a count s b
 
     module _ (rows : RowsLaid t (length t.sizes) (length values) (length c)) (diagonal : DiagonalLaid t.sizes unit_starts d_starts (length t.sizes) (length diag) (length d))
-        (known : j < length t.sizes) (k : LdltResult) (answers : Answers (Accepted k))
+        (known : j < length t.sizes) (k : LdltResult) (answers : Answers (Ok k))
         (values' : List Float) (stores : Stores t.sizes places t.l_rows t.l_offsets j from end unit pivots c values values')
         (a : System) (count : ℕ) (s : State) (b : Before t unit_starts d_starts a tol j count places c values diag d s) where
       -- a row of the table is one of the column
@@ -171,6 +168,6 @@ module _ (t : Tables) (unit_starts d_starts places : List ℕ) (j : ℕ) where
           at_rows m (yes l) h = rw (before m l) (b.held.rows m (omega (arith, b.so_far)))
           at_rows m (no l) h = subst (λ (m : ℕ). (get_or all m no_column).rows ≡ rows_at t m) (is_last m l h) (rw last b.rows)
 
-      pub stored : Ended t unit_starts d_starts a j s (Accepted k, values', diag', d')
+      pub stored : Ended t unit_starts d_starts a j s (Ok k, values', diag', d')
       unfolding settled_by
-      stored = (new, same-finish (Accepted k) answers a count s b, all_held)
+      stored = (new, same-finish (Ok k) answers a count s b, all_held)

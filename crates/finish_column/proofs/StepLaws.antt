@@ -12,7 +12,9 @@ use lib.Ieee.{Float}
 use Rattle.scalar.specs.Block.{within}
 use Rattle.dense_solve_right.specs.SolveRight.{ldlt_right_matsolve}
 use Rattle.block_diag_ldlt.specs.Block.{block_ldlt}
-use Rattle.block_diag_ldlt.specs.declared.cores.Settled.{Settled}
+use Rattle.std.specs.Prelude.{Result}
+use Rattle.dense_pivots.specs.declared.LdltResult.{LdltResult}
+use Rattle.block_diag_ldlt.specs.declared.cores.BlockError.{BlockError}
 use Rattle.tables.specs.Verdict.{at}
 use Rattle.block_product.specs.Working.{slot}
 use Rattle.block_product.proofs.SlotLaws.{slot-written, slot-other}
@@ -26,7 +28,7 @@ pub block-later : (sizes places unit_starts d_starts : List ℕ) (j c diag diag'
 block-later sizes places unit_starts d_starts j c diag diag' d d' e f h = rw (e, f) h
 
 -- its unit factor and d are written to their places
-pub decomposes : (sizes places unit_starts d_starts : List ℕ) (j : ℕ) (tol : Float) (c diag d : List Float) (r : Settled) (unit pivots : List Float)
+pub decomposes : (sizes places unit_starts d_starts : List ℕ) (j : ℕ) (tol : Float) (c diag d : List Float) (r : Result LdltResult BlockError) (unit pivots : List Float)
     → BlockFit sizes places unit_starts d_starts j (length c) (length diag) (length d) → length unit ≡ at sizes j * at sizes j → length pivots ≡ at sizes j
     → (r, unit, pivots) ≡ block_ldlt (at sizes j) tol (slot (at places j) (at sizes j * at sizes j) c)
     → Decomposes sizes places unit_starts d_starts j tol c diag d r (within (at unit_starts j) (at sizes j * at sizes j) (λ x. unit) diag) (within (at d_starts j) (at sizes j) (λ x. pivots) d)

@@ -1,10 +1,11 @@
 -- How flat lists hold the finished columns, and the end of a column on them. Assumes nothing.
 use Rattle.std.specs.Prelude.{◌≡◌, ℕ, suc, ◌<◌, List, [], ◌∷◌, ◌++◌, length, get_or, slice_index_or}
-use Rattle.std.specs.Prelude.{Float}
+use Rattle.std.specs.Prelude.{Float, Result, Ok, Err}
 use Rattle.graph.specs.Sets.{filter, between}
 use Rattle.refusal.specs.Refusal.{pivot_not_finite, poorly_conditioned}
-use Rattle.block_diag_ldlt.specs.declared.cores.Settled.{Settled}
-use Rattle.block_diag_ldlt.specs.declared.cores.Settled.TheVariants.{Accepted, NotFinite, Poor}
+use Rattle.dense_pivots.specs.declared.LdltResult.{LdltResult}
+use Rattle.block_diag_ldlt.specs.declared.cores.BlockError.{BlockError}
+use Rattle.block_diag_ldlt.specs.declared.cores.BlockError.TheVariants.{NotFinite, Poor}
 use Rattle.tables.specs.Verdict.{at}
 use Rattle.order.specs.Order.{sizes_of}
 use Rattle.machine.specs.System.{System, blocks, order}
@@ -20,10 +21,10 @@ module _ (t : Tables) (unit_starts d_starts : List ℕ) where
     pub rows : (k : ℕ) → k < length cols → (get_or cols k no_column).rows ≡ rows_at t k
 
   -- How column j ended on the flat lists is how it ends on the machine, whose state s has its products done.
-  abbrev pub Ended : System → ℕ → State → Settled × List Float × List Float × List Float → Type 0
-  Ended a j s (Accepted r, values, diag, d) = (col : Column) × (finish a j s ≡ made col) × HoldsAll values diag d (s.finished ++ (col ∷ []))
-  Ended a j s (NotFinite place pivot, values, diag, d) = finish a j s ≡ refused (pivot_not_finite j place pivot)
-  Ended a j s (Poor condition, values, diag, d) = finish a j s ≡ refused (poorly_conditioned j condition)
+  abbrev pub Ended : System → ℕ → State → Result LdltResult BlockError × List Float × List Float × List Float → Type 0
+  Ended a j s (Ok r, values, diag, d) = (col : Column) × (finish a j s ≡ made col) × HoldsAll values diag d (s.finished ++ (col ∷ []))
+  Ended a j s (Err (NotFinite place pivot), values, diag, d) = finish a j s ≡ refused (pivot_not_finite j place pivot)
+  Ended a j s (Err (Poor condition), values, diag, d) = finish a j s ≡ refused (poorly_conditioned j condition)
 
   -- ---- what is promised
 
@@ -37,5 +38,5 @@ module _ (t : Tables) (unit_starts d_starts : List ℕ) where
     pub rows : filter (λ i. touched (s.work i)) (between (suc j) (blocks a)) ≡ rows_at t j
 
   -- Then the answer and the lists after it are the machine's end of the column, for every system and state.
-  abbrev pub Finishes : (tol : Float) (j : ℕ) (places : List ℕ) (c values diag d : List Float) → Settled × List Float × List Float × List Float → Type 0
+  abbrev pub Finishes : (tol : Float) (j : ℕ) (places : List ℕ) (c values diag d : List Float) → Result LdltResult BlockError × List Float × List Float × List Float → Type 0
   Finishes tol j places c values diag d r = (a : System) (count : ℕ) (s : State) → Before a tol j count places c values diag d s → Ended a j s r

@@ -1,9 +1,10 @@
 -- The two steps of the end of column j on flat lists: its diagonal block, and its rows. Assumes nothing.
 use Rattle.std.specs.Prelude.{◌≡◌, ℕ, ◌+◌, ◌*◌, ◌<◌, ◌≤◌, List, length}
-use Rattle.std.specs.Prelude.{Float}
+use Rattle.std.specs.Prelude.{Float, Result}
 use Rattle.dense_solve_right.specs.SolveRight.{ldlt_right_matsolve}
 use Rattle.block_diag_ldlt.specs.Block.{block_ldlt}
-use Rattle.block_diag_ldlt.specs.declared.cores.Settled.{Settled}
+use Rattle.dense_pivots.specs.declared.LdltResult.{LdltResult}
+use Rattle.block_diag_ldlt.specs.declared.cores.BlockError.{BlockError}
 use Rattle.tables.specs.Verdict.{at}
 use Rattle.block_product.specs.Working.{slot}
 
@@ -18,7 +19,7 @@ module _ (sizes places unit_starts d_starts : List ℕ) (j : ℕ) where
     pub of_d : at d_starts j + at sizes j ≤ d
 
   -- what is promised: the answer is that of the block, whose unit factor and d stand in their places; before them nothing is changed
-  pub record Decomposes (tol : Float) (c diag d : List Float) (r : Settled) (diag' d' : List Float) : Type 0 where
+  pub record Decomposes (tol : Float) (c diag d : List Float) (r : Result LdltResult BlockError) (diag' d' : List Float) : Type 0 where
     pub factors : (r, slot (at unit_starts j) (at sizes j * at sizes j) diag', slot (at d_starts j) (at sizes j) d')
         ≡ block_ldlt (at sizes j) tol (slot (at places j) (at sizes j * at sizes j) c)
     pub units_before : (o n : ℕ) → o + n ≤ at unit_starts j → slot o n diag' ≡ slot o n diag

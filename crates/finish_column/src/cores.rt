@@ -7,7 +7,8 @@ ghost use Rattle.layout.specs.Layout.{tables, RowsLaid, Placed, DiagonalLaid};
 ghost use Rattle.finish_column.specs.Steps.{BlockFit, Decomposes, StoreFit, Stores};
 ghost use Rattle.finish_column.specs.Finish.{Finishes};
 
-use block_diag_ldlt::cores::{Settled, decompose_core};
+use block_diag_ldlt::cores::{BlockError, decompose_core};
+use dense_pivots::LdltResult;
 use tiled_right::cores::ldlt_right_matsolve_tiled;
 
 // The diagonal block of column j is decomposed, and its unit factor and d go to their places. Where that is refused they are NaNs, and
@@ -26,37 +27,31 @@ pub fn finish_column(
     values: &mut [f64],
     diag: &mut [f64],
     d: &mut [f64],
-) -> Settled
+) -> Result<LdltResult, BlockError>
     requires rows_laid { RowsLaid (tables sizes.now l_starts.now l_rows.now l_offsets.now) (length sizes.now) (length values.old) (length c.now) }
     requires diagonal_laid { DiagonalLaid sizes.now unit_starts.now d_starts.now (length sizes.now) (length diag.old) (length d.old) }
     requires placed { Placed (tables sizes.now l_starts.now l_rows.now l_offsets.now) places.now j × (j < length sizes.now) × (length places.now ≡ length sizes.now) }
     ensures { Finishes (tables sizes.now l_starts.now l_rows.now l_offsets.now) unit_starts.now d_starts.now tol j places.now c.now values.old diag.old d.old (result, values.new, diag.new, d.new) }
 {
-    let r = decompose_at(sizes, places, unit_starts, d_starts, j, tol, c, diag, d);
-    match r {
-        Settled::Accepted(k) => {
-            let from = l_starts[j] as usize;
-            let end = l_starts[j + 1] as usize;
-            store_at(
-                sizes,
-                places,
-                l_rows,
-                l_offsets,
-                unit_starts,
-                d_starts,
-                j,
-                from,
-                end,
-                c,
-                &diag[..],
-                &d[..],
-                values,
-            );
-            Settled::Accepted(k)
-        }
-        Settled::NotFinite { place, pivot } => Settled::NotFinite { place, pivot },
-        Settled::Poor { condition } => Settled::Poor { condition },
-    }
+    let k = decompose_at(sizes, places, unit_starts, d_starts, j, tol, c, diag, d)?;
+    let from = l_starts[j] as usize;
+    let end = l_starts[j + 1] as usize;
+    store_at(
+        sizes,
+        places,
+        l_rows,
+        l_offsets,
+        unit_starts,
+        d_starts,
+        j,
+        from,
+        end,
+        c,
+        &diag[..],
+        &d[..],
+        values,
+    );
+    Ok(k)
 }
 
 // The unit factor and d of the diagonal block of column j go to their places.
@@ -70,7 +65,7 @@ fn decompose_at(
     c: &[f64],
     diag: &mut [f64],
     d: &mut [f64],
-) -> Settled
+) -> Result<LdltResult, BlockError>
     requires { BlockFit sizes.now places.now unit_starts.now d_starts.now j (length c.now) (length diag.old) (length d.old) }
     ensures { Decomposes sizes.now places.now unit_starts.now d_starts.now j tol c.now diag.old d.old result diag.new d.new }
 {

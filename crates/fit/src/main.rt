@@ -2,7 +2,6 @@
 #![tactic(auto)]
 
 use fit_answer::answer;
-use render::Line;
 
 const STDIN: i32 = 0;
 
@@ -18,7 +17,9 @@ fn main() {
     if read == 50705 {
         skip();
     }
-    print(&sheet, read);
+    if let Some(sheet) = sheet.get(..read) {
+        print(sheet);
+    }
 }
 
 // The rest of the input, so that whoever writes it can end.
@@ -35,24 +36,12 @@ fn more() -> bool {
     io::read_full(STDIN, &mut chunk) > 0
 }
 
-// The answer to the first `read` bytes. The longest has a first line of at most 143 bytes and 512 lines of at most 45.
-fn print(sheet: &[u8], read: usize) {
-    if read > sheet.len() {
-        return;
-    }
+// The answer to the bytes of a sheet. The longest has a first line of at most 143 bytes and 512 lines of at most 45.
+fn print(sheet: &[u8]) {
     let mut out = [0u8; 24576];
-    let r = answer(&sheet[..read], &mut out);
-    match r {
-        Line::Accepted(t) => {
-            let n = t.bytes;
-            show(&out, n);
+    if let Ok(text) = answer(sheet, &mut out) {
+        if let Some(text) = out.get(..text.bytes) {
+            io::write_all(STDOUT, text);
         }
-        Line::Short { need: _ } => {}
-    }
-}
-
-fn show(text: &[u8], n: usize) {
-    if n <= text.len() {
-        io::write_all(STDOUT, &text[..n]);
     }
 }

@@ -2,7 +2,7 @@
 --     night-refused, night-accepted   after the plan
 --     sheet-refused, sheet-accepted   before it
 -- Assumes nothing.
-use Rattle.std.specs.Prelude.{◌≡◌, ℕ, zero, suc, ◌+◌, ◌≤◌, Bool, true, false, cond, eqb, ltb, leb, List, [], ◌∷◌, ◌++◌, length, take, replicate}
+use Rattle.std.specs.Prelude.{◌≡◌, ℕ, zero, suc, ◌+◌, ◌≤◌, Bool, true, false, cond, eqb, ltb, leb, List, [], ◌∷◌, ◌++◌, length, take, replicate, Ok}
 use mathlib.Core.Bool.{false≢true}
 use mathlib.Core.Path.{refl, sym, ap, subst, ◌∙◌}
 use native.Mathlib.Omega.{arith}
@@ -16,24 +16,44 @@ use Rattle.tables.specs.Verdict.{system_verdict}
 use Rattle.scalars.specs.Scalars.{scalar_count}
 use Rattle.machine.specs.System.{System, blocks}
 use Rattle.machine.specs.Machine.{Run, going, stopped, run}
-use Rattle.factor_setup.specs.Exact.{system, stored, numbers}
-use Rattle.solution.specs.Solution.{solution}
+use Rattle.factor_setup.specs.Exact.{system, numbers}
+use Rattle.fit_factor.specs.Fitted as fitted
 use Rattle.fit_factor.specs.Fitted.{l_room_check}
+use Rattle.fit_factor.specs.declared.cores.FitError.{FitError}
+use Rattle.fit_factor.specs.declared.cores.FitError.TheVariants as fit
 use Rattle.fit_factor.proofs.Laws.{stopped-refuses}
 use Rattle.fit_night.specs.Night as night
 use Rattle.fit_night.specs.Night.{Solves}
-use Rattle.fit_night.specs.declared.cores.Night.TheVariants as variant
 use Rattle.fit_night.specs.declared.cores.Tally.{Tally}
 use Rattle.sheet_bytes.specs.Layout.{blocks_of, stored_of, tol_of}
 use Rattle.sheet_check.specs.Sheet.{value_count, scalars_of, system_of, right_side_of, sheet_verdict}
 use Rattle.sheet_check.specs.Outcome as outcome
 use Rattle.sheet_check.specs.Outcome.{sheet_told}
 use Rattle.sheet_check.specs.declared.cores.Night.{Night as Night'}
-use Rattle.sheet_check.specs.declared.cores.Sheet.TheVariants as sheet
+use Rattle.sheet_check.specs.declared.cores.SheetError.{SheetError}
+use Rattle.sheet_check.specs.declared.cores.SheetError.TheVariants as sheet
 use Rattle.sheet.specs.Reads.{Holds}
 use Rattle.render.specs.Lines.{refused_line, answer_text}
 use Rattle.render.specs.Rendered.{shape_checks, text_verdict, answer_verdict, Renders}
 use Rattle.fit_answer.specs.Fit.{refused_or, run_text, night_text, printed}
+
+-- ---- each error is a refusal
+
+pub fit-refuses : (e : FitError) → refuses (fitted.told_error e) ≡ true
+fit-refuses (fit.NotFinite block place pivot) = refl
+fit-refuses (fit.Poor block condition) = refl
+fit-refuses fit.Room = refl
+
+pub sheet-refuses : (e : SheetError) → refuses (outcome.told_error e) ≡ true
+sheet-refuses (sheet.Dimension place) = refl
+sheet-refuses (sheet.Column place) = refl
+sheet-refuses (sheet.Row place) = refl
+sheet-refuses (sheet.Order place) = refl
+sheet-refuses (sheet.Permutation place) = refl
+sheet-refuses (sheet.Late place) = refl
+sheet-refuses sheet.Tolerance = refl
+sheet-refuses sheet.Length = refl
+sheet-refuses sheet.Room = refl
 
 -- ---- parts of a room
 
@@ -64,7 +84,7 @@ module _ (a : System) (b : List Float) where
       go false (going s) p = absurd (false≢true (sym (ap refuses p) ∙ stops))
       go false (stopped u) p = ap (λ (u : Told). refused_line (number u)) p
 
-  module _ (m : List ℕ) (t : Tally) (x : List Float) (marks : List ℕ) (q : Solves a b m (variant.Accepted t) x marks) where
+  module _ (m : List ℕ) (t : Tally) (x : List Float) (marks : List ℕ) (q : Solves a b m (Ok t) x marks) where
     pub night-accepted : answer_text (blocks a) t.stored t.products t.silent x marks ≡ night_text a b
     unfolding night_text
     night-accepted = go (ltb 8192 (numbers a)) (run a) refl q.outcome q.solution_is q.marks_are
@@ -72,7 +92,7 @@ module _ (a : System) (b : List Float) where
         parts : (i j k i' j' k' : ℕ) → accepted (i ∷ j ∷ k ∷ []) [] ≡ accepted (i' ∷ j' ∷ k' ∷ []) [] → (i ≡ i') × (j ≡ j') × (k ≡ k')
         parts i j k i' j' k' p = (cc, cc, cc)
 
-        go : (c : Bool) (r : Run) → run a ≡ r → night.told (variant.Accepted t) ≡ first_of (cond c no_room done) (night.answered a r)
+        go : (c : Bool) (r : Run) → run a ≡ r → night.told (Ok t) ≡ first_of (cond c no_room done) (night.answered a r)
             → x ≡ cond (refuses (cond c no_room done)) b (night.solution_after a r b) → marks ≡ cond (refuses (cond c no_room done)) m (night.marks_after a r m)
             → answer_text (blocks a) t.stored t.products t.silent x marks ≡ refused_or (cond c no_room done) (run_text a r b)
         go true r runs p ex em = absurd (let z : ◌≡◌ {A = ℕ} 0 16 = ap number p in omega arith)
@@ -124,7 +144,7 @@ module _ (s : List ℕ) where
   sheet-accepted e = sym (ap (λ (b : Bool). cond b (refused_line (number (sheet_verdict s))) (night_text (system_of s) (right_side_of s))) e)
 
 -- the sheet's night in the first places of the rooms
-module _ (s : List ℕ) (w : Night') (e : outcome.told (sheet.Accepted w) ≡ sheet_told s) (dims late perm starts rows : List ℕ) (values right : List Float) (h : Holds s w dims late perm starts rows values right) where
+module _ (s : List ℕ) (w : Night') (e : outcome.told (Ok w) ≡ sheet_told s) (dims late perm starts rows : List ℕ) (values right : List Float) (h : Holds s w dims late perm starts rows values right) where
   pub night-within :
       ((system_verdict (take w.blocks dims) (take (w.blocks + 1) starts) (take w.stored rows) (take w.values values) (take w.blocks perm) (take w.blocks late) w.tol ≡ done)
       × (length (take w.blocks dims) ≤ 128) × (length (take w.stored rows) ≤ 1024) × (scalar_count (take w.blocks dims) ≤ 512))

@@ -7,12 +7,14 @@ ghost use Rattle.render.specs.Rendered.{told_line, Renders, text_verdict};
 ghost use Rattle.fit_answer.specs.Fit.{printed};
 
 use crate::cores::solve_core;
-use render::{Line, refused};
-use sheet::{Sheet, read};
+use factor_setup::System;
+use refusal::Refusal;
+use render::{ShortText, Text, refused};
+use sheet::read;
 
 // The answer's bytes go to the first places of `out`: the lines of an accepted night, or the line of a refusal. Only a shorter `out` is
 // refused, by 11 with the text's length as its need; it is then as it was, and so are always the places beyond the text.
-pub fn answer(bytes: &[u8], out: &mut [u8]) -> Line
+pub fn answer(bytes: &[u8], out: &mut [u8]) -> Result<Text, ShortText>
     ensures { Renders (text_verdict (printed bytes.now) out.old) (printed bytes.now) out.old (told_line result) out.new }
 {
     let mut dims = [0u32; 128];
@@ -33,33 +35,24 @@ pub fn answer(bytes: &[u8], out: &mut [u8]) -> Line
         &mut right,
     );
     match r {
-        Sheet::Accepted(night) => {
+        Ok(night) => {
             let n = night.blocks;
             let n1 = n + 1;
             let m = night.stored;
             let count = night.values;
             let scalars = night.scalars;
             let tol = night.tol;
-            solve_core(
-                &dims[..n],
-                &starts[..n1],
-                &rows[..m],
-                &values[..count],
-                &perm[..n],
-                &late[..n],
+            let system = System {
+                dims: &dims[..n],
+                starts: &starts[..n1],
+                rows: &rows[..m],
+                values: &values[..count],
+                perm: &perm[..n],
+                late: &late[..n],
                 tol,
-                &mut right[..scalars],
-                out,
-            )
+            };
+            solve_core(&system, &mut right[..scalars], out)
         }
-        Sheet::Dimension { place: _ } => refused(2, out),
-        Sheet::Column { place: _ } => refused(3, out),
-        Sheet::Row { place: _ } => refused(5, out),
-        Sheet::Order { place: _ } => refused(6, out),
-        Sheet::Permutation { place: _ } => refused(8, out),
-        Sheet::Late { place: _ } => refused(9, out),
-        Sheet::Tolerance => refused(10, out),
-        Sheet::Length => refused(15, out),
-        Sheet::Room => refused(16, out),
+        Err(refusal) => refused(u64::from(refusal.number()), out),
     }
 }

@@ -18,8 +18,10 @@ use Rattle.tables.proofs.Sound.{system-sound}
 use Rattle.tables.proofs.TableLaws.{stored-half}
 use Rattle.scalars.specs.Scalars.{scalar_count}
 use Rattle.block_diag_ldlt.specs.Block.{block_ldlt}
-use Rattle.block_diag_ldlt.specs.declared.cores.Settled.{Settled}
-use Rattle.block_diag_ldlt.specs.declared.cores.Settled.TheVariants.{Accepted, NotFinite, Poor}
+use Rattle.std.specs.Prelude.{Result, Ok, Err}
+use Rattle.dense_pivots.specs.declared.LdltResult.{LdltResult}
+use Rattle.block_diag_ldlt.specs.declared.cores.BlockError.{BlockError}
+use Rattle.block_diag_ldlt.specs.declared.cores.BlockError.TheVariants.{NotFinite, Poor}
 use Rattle.machine.specs.System.{System, blocks, links, dim}
 use Rattle.machine.specs.Machine.{State, refused, body_or, settled_by, finish, Run, going, stopped, run}
 use Rattle.machine.proofs.StopLaws.{stops}
@@ -30,10 +32,8 @@ use Rattle.layout.proofs.PlanLaws.{plan_columns, plan-stored}
 use Rattle.factor_tables.proofs.NeedLaws.{widest-small}
 use Rattle.factor_setup.specs.Exact.{stored, numbers}
 use Rattle.factor_core.specs.Factorize as factorization
-use Rattle.factor_core.specs.Factorize.{Places, first_list, early, whole, answered, Factors}
-use Rattle.factor_core.specs.declared.Factorized.{Factorized}
-use Rattle.fit_factor.specs.Fitted.{told, l_room_check, possible, roomed, factor, Fits}
-use Rattle.fit_factor.specs.declared.cores.Fitted.{Fitted}
+use Rattle.factor_core.specs.Factorize.{Factorized, Places, first_list, early, whole, answered, Factors}
+use Rattle.fit_factor.specs.Fitted.{Fitted, told, l_room_check, possible, roomed, factor, Fits}
 
 -- ---- what a run can be told with
 
@@ -45,10 +45,10 @@ finish-number a j s t e = go (block_ldlt (dim a j) a.tol (body_or _ (s.work j)))
     out : (u : Told) → refused u ≡ refused t → t ≡ u
     out u p = cc
 
-    go : (r : Settled × List Float × List Float) → settled_by a j s r ≡ refused t → (number t ≡ 13) ⊎ (number t ≡ 14)
-    go (Accepted r, unit, d) p = absurd (let z : ◌≡◌ {A = ℕ} 0 1 = cc in omega arith)
-    go (NotFinite place pivot, unit, d) p = inl (ap number (out _ p))
-    go (Poor condition, unit, d) p = inr (ap number (out _ p))
+    go : (r : Result LdltResult BlockError × List Float × List Float) → settled_by a j s r ≡ refused t → (number t ≡ 13) ⊎ (number t ≡ 14)
+    go (Ok r, unit, d) p = absurd (let z : ◌≡◌ {A = ℕ} 0 1 = cc in omega arith)
+    go (Err (NotFinite place pivot), unit, d) p = inl (ap number (out _ p))
+    go (Err (Poor condition), unit, d) p = inr (ap number (out _ p))
 
 -- so a run that stopped is refused
 pub stopped-refuses : (a : System) (t : Told) → run a ≡ stopped t → refuses t ≡ true

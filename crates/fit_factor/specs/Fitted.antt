@@ -1,7 +1,7 @@
 -- What a factorization within the rooms of `fit` answers, and what it leaves in its outputs. Assumes nothing.
-use Rattle.std.specs.Prelude.{◌≡◌, ℕ, ◌+◌, Bool, cond, List, [], ◌∷◌, ◌++◌, drop, ◌==◌}
+use Rattle.std.specs.Prelude.{◌≡◌, ℕ, ◌+◌, Bool, cond, List, [], ◌∷◌, ◌++◌, drop, ◌==◌, Result}
 use Rattle.std.specs.Prelude.{Float}
-use Rattle.refusal.specs.Refusal.{Told, number, accepted, pivot_not_finite, poorly_conditioned, no_room, first_of, after}
+use Rattle.refusal.specs.Refusal.{Told, told_by, number, accepted, pivot_not_finite, poorly_conditioned, no_room, first_of, after}
 use Rattle.graph.specs.Sets.{elem}
 use Rattle.elimination_tree.specs.Tree.{parents_of}
 use Rattle.scalars.specs.Scalars.{scalar_count}
@@ -11,15 +11,23 @@ use Rattle.layout.specs.Layout.{units_need}
 use Rattle.sheet_check.specs.Checks.{room_factor, room_check}
 use Rattle.factor_setup.specs.Exact.{stored, numbers, l_starts, l_rows, l_offsets, values_after, units_after, pivots_after}
 use Rattle.factor_core.specs.Factorize.{answered}
-use Rattle.fit_factor.specs.declared.cores.Fitted.{Fitted}
-use Rattle.fit_factor.specs.declared.cores.Fitted.TheVariants as variant
+use Rattle.analysis.specs.declared.cores.Counts.{Counts}
+use Rattle.fit_factor.specs.declared.cores.FitError.{FitError}
+use Rattle.fit_factor.specs.declared.cores.FitError.TheVariants as variant
 
--- document 01's number and values for each case; an accepted factorization hands back L's blocks, L's numbers and the block products
+-- document 01's number and values for each refusal
+abbrev pub told_error : FitError → Told
+told_error (variant.NotFinite block place pivot) = pivot_not_finite block place pivot
+told_error (variant.Poor block condition) = poorly_conditioned block condition
+told_error variant.Room = no_room
+
+-- how a factorization within the rooms ends
+abbrev pub Fitted : Type 0
+Fitted = Result Counts FitError
+
+-- an accepted one hands back L's blocks, L's numbers and the block products
 abbrev pub told : Fitted → Told
-told (variant.Accepted c) = accepted (c.stored ∷ c.numbers ∷ c.products ∷ []) []
-told (variant.NotFinite block place pivot) = pivot_not_finite block place pivot
-told (variant.Poor block condition) = poorly_conditioned block condition
-told variant.Room = no_room
+told = told_by (λ c. accepted (c.stored ∷ c.numbers ∷ c.products ∷ []) []) told_error
 
 -- 16: the program's room for L's numbers, 8,192
 abbrev pub l_room_check : System → Told

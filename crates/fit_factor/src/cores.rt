@@ -4,18 +4,16 @@ ghost use Rattle.std.specs.Prelude.{◌≡◌, ◌≤◌, true, length};
 ghost use Rattle.refusal.specs.Refusal.{done, number};
 ghost use Rattle.tables.specs.Verdict.{system_verdict};
 ghost use Rattle.scalars.specs.Scalars.{scalar_count};
-ghost use Rattle.factor_setup.specs.Exact.{system};
+ghost use Rattle.factor_setup.specs.Exact.{handed};
 ghost use Rattle.factor_core.specs.Factorize as factorization;
-ghost use Rattle.fit_factor.specs.Fitted.{told, possible, roomed, Factor, factor, Fits};
+ghost use Rattle.fit_factor.specs.Fitted.{told, told_error, possible, roomed, factor, Fits};
 
-use analysis::cores::Counts;
-use factor_core::Factorized;
+use factorize::{Counts, FactorizeError, Outputs, Scratch, System, factorize};
+use refusal::Refusal;
 
-// The outcome for a night whose tables have passed.
-#[derive(Clone, Copy)]
-pub enum Fitted {
-    // L's blocks below the diagonal, L's numbers, and the block products worked through.
-    Accepted(Counts),
+// The refusals of a night whose tables have passed.
+#[derive(Clone, Copy, Debug, PartialEq)]
+pub enum FitError {
     // 13: the pivot of row `place` of a block, by new number, is NaN or infinite.
     NotFinite {
         block: usize,
@@ -31,15 +29,30 @@ pub enum Fitted {
     Room,
 }
 
-// `factorize::factorize` with outputs and scratch as large as the rooms: of the needs only that of L's values may not be met.
+impl Refusal for FitError {
+    ghost told = { told_error };
+
+    fn number(&self) -> u32 {
+        match self {
+            FitError::NotFinite {
+                block: _,
+                place: _,
+                pivot: _,
+            } => 13,
+            FitError::Poor {
+                block: _,
+                condition: _,
+            } => 14,
+            FitError::Room => 16,
+        }
+    }
+}
+
+// `factorize::factorize` with outputs and scratch as large as the rooms: of the needs only that of L's values may not be met. Accepted,
+// L's blocks below the diagonal, L's numbers, and the block products worked through.
+// Kept: the outputs one by one: each is an array of the program's own room, which its type says.
 pub fn factor_core(
-    dims: &[u32],
-    starts: &[u32],
-    rows: &[u32],
-    values: &[f64],
-    perm: &[u32],
-    late: &[u32],
-    tol: f64,
+    s: &System,
     order: &mut [u32; 128],
     parents: &mut [u32; 128],
     l_starts: &mut [u32; 129],
@@ -48,31 +61,11 @@ pub fn factor_core(
     l_values: &mut [f64; 8192],
     diag: &mut [f64; 8192],
     d: &mut [f64; 512],
-) -> Fitted
-    requires { (system_verdict dims.now starts.now rows.now values.now perm.now late.now tol ≡ done) × (length dims.now ≤ 128) × (length rows.now ≤ 1024) × (scalar_count dims.now ≤ 512) }
-    ensures { Fits (system dims.now starts.now rows.now values.now perm.now late.now tol) (factor order.old parents.old l_starts.old l_rows.old l_offsets.old l_values.old diag.old d.old) result (factor order.new parents.new l_starts.new l_rows.new l_offsets.new l_values.new diag.new d.new) }
+) -> Result<Counts, FitError>
+    requires { (system_verdict s.now.dims.now s.now.starts.now s.now.rows.now s.now.values.now s.now.perm.now s.now.late.now s.now.tol ≡ done) × (length s.now.dims.now ≤ 128) × (length s.now.rows.now ≤ 1024) × (scalar_count s.now.dims.now ≤ 512) }
+    ensures { Fits (handed s.now) (factor order.old parents.old l_starts.old l_rows.old l_offsets.old l_values.old diag.old d.old) result (factor order.new parents.new l_starts.new l_rows.new l_offsets.new l_values.new diag.new d.new) }
 {
-    let mut column = [0.0; 8192];
-    let mut inverse = [0u32; 128];
-    let mut sizes = [0u32; 128];
-    let mut count = [0u32; 128];
-    let mut heads = [0u32; 129];
-    let mut into = [0u32; 129];
-    let mut stamps = [0u32; 128];
-    let mut table = [0u32; 1024];
-    let mut upper = [0u32; 1024];
-    let mut bodies = [0u32; 1025];
-    let mut unit_starts = [0u32; 129];
-    let mut d_starts = [0u32; 129];
-    let mut places = [0u32; 128];
-    let f = factorize::factorize(
-        dims,
-        starts,
-        rows,
-        values,
-        perm,
-        late,
-        tol,
+    let mut o = Outputs {
         order,
         parents,
         l_starts,
@@ -81,50 +74,44 @@ pub fn factor_core(
         l_values,
         diag,
         d,
-        &mut column,
-        &mut inverse,
-        &mut sizes,
-        &mut count,
-        &mut heads,
-        &mut into,
-        &mut stamps,
-        &mut table,
-        &mut upper,
-        &mut bodies,
-        &mut unit_starts,
-        &mut d_starts,
-        &mut places,
-    );
-    fitted_core(f)
+    };
+    let mut w = Scratch {
+        column: &mut [0.0; 8192],
+        inverse: &mut [0; 128],
+        sizes: &mut [0; 128],
+        count: &mut [0; 128],
+        heads: &mut [0; 129],
+        into: &mut [0; 129],
+        stamps: &mut [0; 128],
+        table: &mut [0; 1024],
+        upper: &mut [0; 1024],
+        bodies: &mut [0; 1025],
+        unit_starts: &mut [0; 129],
+        d_starts: &mut [0; 129],
+        places: &mut [0; 128],
+    };
+    fitted_core(factorize(s, &mut o, &mut w))
 }
 
 // What a factorization says where only L's values can be short, and nothing else can be wrong.
-pub fn fitted_core(f: Factorized) -> Fitted
+pub fn fitted_core(f: Result<Counts, FactorizeError>) -> Result<Counts, FitError>
     requires { possible (number (factorization.told f)) ≡ true }
     ensures { told result ≡ roomed (factorization.told f) }
 {
     match f {
-        Factorized::Accepted(c) => Fitted::Accepted(c),
-        Factorized::Blocks => Fitted::Room,
-        Factorized::Dimension { place: _ } => Fitted::Room,
-        Factorized::Starts { place: _ } => Fitted::Room,
-        Factorized::Stored => Fitted::Room,
-        Factorized::Row { place: _ } => Fitted::Room,
-        Factorized::Order { place: _ } => Fitted::Room,
-        Factorized::Values => Fitted::Room,
-        Factorized::Permutation { place: _ } => Fitted::Room,
-        Factorized::Late { place: _ } => Fitted::Room,
-        Factorized::Tolerance => Fitted::Room,
-        Factorized::Short { which: _, need: _ } => Fitted::Room,
-        Factorized::NotFinite {
+        Ok(counts) => Ok(counts),
+        Err(
+            FactorizeError::NotFinite {
+                block,
+                place,
+                pivot,
+            },
+        ) => Err(FitError::NotFinite {
             block,
             place,
             pivot,
-        } => Fitted::NotFinite {
-            block,
-            place,
-            pivot,
-        },
-        Factorized::Poor { block, condition } => Fitted::Poor { block, condition },
+        }),
+        Err(FactorizeError::Poor { block, condition }) => Err(FitError::Poor { block, condition }),
+        Err(_) => Err(FitError::Room),
     }
 }

@@ -4,7 +4,7 @@
 --     solvable      and the first places of the lists are a factor that can be solved with
 --     solved        so the solution is that of the last state, and so are the marks
 -- Assumes nothing.
-use Rattle.std.specs.Prelude.{◌≡◌, ℕ, ◌+◌, ◌<◌, ◌≤◌, Bool, true, false, cond, ltb, List, [], ◌∷◌, ◌++◌, length, take, drop}
+use Rattle.std.specs.Prelude.{◌≡◌, ℕ, ◌+◌, ◌<◌, ◌≤◌, Bool, true, false, cond, ltb, List, [], ◌∷◌, ◌++◌, length, take, drop, Result, Ok, Err}
 use mathlib.Core.Bool.{false≢true}
 use mathlib.Core.Path.{refl, sym, ap, ◌∙◌}
 use native.Mathlib.Omega.{arith}
@@ -29,14 +29,10 @@ use Rattle.held_columns.proofs.Held as held
 use Rattle.marks.specs.Mark.{silent_of, marks_of}
 use Rattle.solution.specs.Solution.{solution}
 use Rattle.solve_core.specs.Core.{Solvable, SolvedBy}
-use Rattle.fit_factor.specs.Fitted.{told, l_room_check, Factor, Fits}
-use Rattle.fit_factor.specs.declared.cores.Fitted.{Fitted}
-use Rattle.fit_factor.specs.declared.cores.Fitted.TheVariants as fitted
+use Rattle.fit_factor.specs.Fitted.{Fitted, told, l_room_check, Factor, Fits}
 use Rattle.fit_factor.proofs.Laws.{Within, units-few, stored-few}
 use Rattle.fit_night.specs.Night as night
-use Rattle.fit_night.specs.Night.{Room, Solves}
-use Rattle.fit_night.specs.declared.cores.Night.{Night}
-use Rattle.fit_night.specs.declared.cores.Night.TheVariants as variant
+use Rattle.fit_night.specs.Night.{Night, Room, Solves}
 
 module _ (a : System) (w : Within a) where
   sound : SystemSound a.dims a.starts a.rows a.values a.perm a.late a.tol
@@ -52,14 +48,14 @@ module _ (a : System) (w : Within a) where
     pub by_numbers : c.numbers ≡ numbers a
     pub by_products : c.products ≡ length state.done
 
-  pub accepts : (c : Counts) → told (fitted.Accepted c) ≡ first_of (l_room_check a) (factorization.answered a (run a)) → Accepts c
+  pub accepts : (c : Counts) → told (Ok c) ≡ first_of (l_room_check a) (factorization.answered a (run a)) → Accepts c
   accepts c e = go (ltb 8192 (numbers a)) refl e
     where
-      go : (b : Bool) → ltb 8192 (numbers a) ≡ b → told (fitted.Accepted c) ≡ first_of (cond b no_room done) (factorization.answered a (run a)) → Accepts c
+      go : (b : Bool) → ltb 8192 (numbers a) ≡ b → told (Ok c) ≡ first_of (cond b no_room done) (factorization.answered a (run a)) → Accepts c
       go true is p = absurd (let z : ◌≡◌ {A = ℕ} 0 16 = ap number p in omega arith)
       go false is p =
           let r = accepted-run a c.stored c.numbers c.products p in
-          let q : told (fitted.Accepted c) ≡ factorization.answered a (going r.0) = p ∙ ap (factorization.answered a) r.1 in
+          let q : told (Ok c) ≡ factorization.answered a (going r.0) = p ∙ ap (factorization.answered a) r.1 in
           record {
             state = r.0;
             runs = r.1;
@@ -69,10 +65,10 @@ module _ (a : System) (w : Within a) where
             by_products = r.2;
           }
         where
-          first : (x y z : ℕ) → told (fitted.Accepted c) ≡ accepted (x ∷ y ∷ z ∷ []) [] → c.stored ≡ x
+          first : (x y z : ℕ) → told (Ok c) ≡ accepted (x ∷ y ∷ z ∷ []) [] → c.stored ≡ x
           first x y z p = cc
 
-          second : (x y z : ℕ) → told (fitted.Accepted c) ≡ accepted (x ∷ y ∷ z ∷ []) [] → c.numbers ≡ y
+          second : (x y z : ℕ) → told (Ok c) ≡ accepted (x ∷ y ∷ z ∷ []) [] → c.numbers ≡ y
           second x y z p = cc
 
   -- ---- the lists that it leaves
@@ -81,7 +77,7 @@ module _ (a : System) (w : Within a) where
   same-long : {A : Type 0} (n : ℕ) (new old now : List A) → now ≡ new ++ drop n old → length new ≡ n → n ≤ length old → length now ≡ length old
   same-long n new old now is e h = ap length is ∙ (length-append new (drop n old) ∙ omega (arith, length-drop n old))
 
-  module _ (b : Factor) (c : Counts) (b' : Factor) (f : Fits a b (fitted.Accepted c) b') where
+  module _ (b : Factor) (c : Counts) (b' : Factor) (f : Fits a b (Ok c) b') where
     pub acc : Accepts c
     acc = accepts c f.outcome
 
@@ -204,7 +200,7 @@ module _ (a : System) (w : Within a) where
         → SolvedBy a.dims (take (blocks a) b'.order) (take (blocks a + 1) b'.l_starts) (take c.stored b'.l_rows) (take (c.stored + 1) b'.l_offsets) (take c.numbers b'.l_values) (take (units_need a.dims) b'.diag) (take (scalar_count a.dims) b'.d) x x'
         → silent ≡ silent_of a.tol (take (scalar_count a.dims) b'.d)
         → marks' ≡ marks_of a.dims (take (blocks a) b'.order) a.tol (take (scalar_count a.dims) b'.d)
-        → Solves a x marks (variant.Accepted (record { stored = c.stored; products = c.products; silent = silent })) x' marks'
+        → Solves a x marks (Ok (record { stored = c.stored; products = c.products; silent = silent })) x' marks'
     answers x x' marks marks' silent q e m =
         record {
           outcome =

@@ -1,7 +1,7 @@
 -- What a night within the rooms of `fit` answers, its solution and its marks. Assumes nothing.
-use Rattle.std.specs.Prelude.{◌≡◌, ℕ, ◌+◌, ◌≤◌, List, [], ◌∷◌, length}
+use Rattle.std.specs.Prelude.{◌≡◌, ℕ, ◌+◌, ◌≤◌, List, [], ◌∷◌, length, Result}
 use Rattle.std.specs.Prelude.{Float}
-use Rattle.refusal.specs.Refusal.{Told, accepted, pivot_not_finite, poorly_conditioned, no_room, first_of, after}
+use Rattle.refusal.specs.Refusal.{Told, told_by, accepted, first_of, after}
 use Rattle.scalars.specs.Scalars.{scalar_count}
 use Rattle.machine.specs.System.{System, order}
 use Rattle.machine.specs.Machine.{column_at, Run, going, stopped, run}
@@ -9,16 +9,17 @@ use Rattle.layout.specs.Layout.{units_need}
 use Rattle.factor_setup.specs.Exact.{stored, pivots_after}
 use Rattle.solution.specs.Solution.{solution}
 use Rattle.marks.specs.Mark.{silent_of, marks_of}
-use Rattle.fit_factor.specs.Fitted.{l_room_check}
-use Rattle.fit_night.specs.declared.cores.Night.{Night}
-use Rattle.fit_night.specs.declared.cores.Night.TheVariants as variant
+use Rattle.fit_factor.specs.Fitted.{told_error, l_room_check}
+use Rattle.fit_factor.specs.declared.cores.FitError.{FitError}
+use Rattle.fit_night.specs.declared.cores.Tally.{Tally}
 
--- document 01's number and values for each case; an accepted night hands back L's blocks, the block products and the silent scalars
+-- how a night within the rooms ends
+abbrev pub Night : Type 0
+Night = Result Tally FitError
+
+-- document 01's number and values; an accepted night hands back L's blocks, the block products and the silent scalars
 abbrev pub told : Night → Told
-told (variant.Accepted t) = accepted (t.stored ∷ t.products ∷ t.silent ∷ []) []
-told (variant.NotFinite block place pivot) = pivot_not_finite block place pivot
-told (variant.Poor block condition) = poorly_conditioned block condition
-told variant.Room = no_room
+told = told_by (λ t. accepted (t.stored ∷ t.products ∷ t.silent ∷ []) []) told_error
 
 module _ (a : System) where
   -- what the machine's run answers

@@ -6,10 +6,11 @@ ghost use Rattle.scalars.specs.Scalars.{scalar_count};
 ghost use Rattle.layout.specs.Layout.{units_need};
 ghost use Rattle.marks.specs.Mark.{silent_of, marks_of};
 ghost use Rattle.solve_core.specs.Core.{Solvable, SolvedBy};
-ghost use Rattle.factor_setup.specs.Exact.{system};
+ghost use Rattle.factor_setup.specs.Exact.{handed};
 ghost use Rattle.fit_night.specs.Night.{Room, Solves};
 
-use fit_factor::cores::{Fitted, factor_core};
+use factor_setup::System;
+use fit_factor::cores::{FitError, factor_core};
 use fit_solve::cores::solve_room;
 use marks::cores::mark_core;
 
@@ -21,41 +22,12 @@ pub struct Tally {
     pub silent: usize,
 }
 
-// The outcome for a night whose tables have passed.
-#[derive(Clone, Copy)]
-pub enum Night {
-    Accepted(Tally),
-    // 13: the pivot of row `place` of a block, by new number, is NaN or infinite.
-    NotFinite {
-        block: usize,
-        place: usize,
-        pivot: f64,
-    },
-    // 14: a block, by new number, is indefinite with a condition below 1e-10.
-    Poor {
-        block: usize,
-        condition: f64,
-    },
-    // 16: L has more than 8,192 numbers.
-    Room,
-}
-
 // x, the right side in old order, becomes the solution, and `marks` the mark of each scalar. Both are as they were where the night is
 // refused.
-pub fn night_core(
-    dims: &[u32],
-    starts: &[u32],
-    rows: &[u32],
-    values: &[f64],
-    perm: &[u32],
-    late: &[u32],
-    tol: f64,
-    x: &mut [f64],
-    marks: &mut [u8],
-) -> Night
-    requires tol_value { (system_verdict dims.now starts.now rows.now values.now perm.now late.now tol ≡ done) × (length dims.now ≤ 128) × (length rows.now ≤ 1024) × (scalar_count dims.now ≤ 512) }
-    requires x_len { (length x.old ≡ scalar_count dims.now) × (length marks.old ≡ scalar_count dims.now) }
-    ensures { Solves (system dims.now starts.now rows.now values.now perm.now late.now tol) x.old marks.old result x.new marks.new }
+pub fn night_core(s: &System, x: &mut [f64], marks: &mut [u8]) -> Result<Tally, FitError>
+    requires tol_value { (system_verdict s.now.dims.now s.now.starts.now s.now.rows.now s.now.values.now s.now.perm.now s.now.late.now s.now.tol ≡ done) × (length s.now.dims.now ≤ 128) × (length s.now.rows.now ≤ 1024) × (scalar_count s.now.dims.now ≤ 512) }
+    requires x_len { (length x.old ≡ scalar_count s.now.dims.now) × (length marks.old ≡ scalar_count s.now.dims.now) }
+    ensures { Solves (handed s.now) x.old marks.old result x.new marks.new }
 {
     let mut order = [0u32; 128];
     let mut parents = [0u32; 128];
@@ -65,14 +37,8 @@ pub fn night_core(
     let mut l_values = [0.0; 8192];
     let mut diag = [0.0; 8192];
     let mut d = [0.0; 512];
-    let f = factor_core(
-        dims,
-        starts,
-        rows,
-        values,
-        perm,
-        late,
-        tol,
+    let counts = factor_core(
+        s,
         &mut order,
         &mut parents,
         &mut l_starts,
@@ -81,34 +47,19 @@ pub fn night_core(
         &mut l_values,
         &mut diag,
         &mut d,
+    )?;
+    let stored = counts.stored;
+    let numbers = counts.numbers;
+    let products = counts.products;
+    let silent = solve_parts(
+        s.dims, s.tol, stored, numbers, &order, &l_starts, &l_rows, &l_offsets, &l_values, &diag,
+        &d, x, marks,
     );
-    match f {
-        Fitted::Accepted(c) => {
-            let stored = c.stored;
-            let numbers = c.numbers;
-            let products = c.products;
-            let silent = solve_parts(
-                dims, tol, stored, numbers, &order, &l_starts, &l_rows, &l_offsets, &l_values,
-                &diag, &d, x, marks,
-            );
-            Night::Accepted(Tally {
-                stored,
-                products,
-                silent,
-            })
-        }
-        Fitted::NotFinite {
-            block,
-            place,
-            pivot,
-        } => Night::NotFinite {
-            block,
-            place,
-            pivot,
-        },
-        Fitted::Poor { block, condition } => Night::Poor { block, condition },
-        Fitted::Room => Night::Room,
-    }
+    Ok(Tally {
+        stored,
+        products,
+        silent,
+    })
 }
 
 // The solve and the marks with a factor in the first places of longer lists. Returns how many scalars are silent.

@@ -33,8 +33,9 @@ use Rattle.dense_ldlt.specs.Ldlt as dense
 use Rattle.dense_ldlt.specs.Ldlt.{ldlt, ldlt_row}
 use Rattle.block_diag_ldlt.specs.Block as block
 use Rattle.block_diag_ldlt.specs.Block.{is_poor, block_ldlt}
-use Rattle.block_diag_ldlt.specs.declared.cores.Settled.{Settled}
-use Rattle.block_diag_ldlt.specs.declared.cores.Settled.TheVariants.{Accepted, NotFinite, Poor}
+use Rattle.std.specs.Prelude.{Result, Ok, Err}
+use Rattle.block_diag_ldlt.specs.declared.cores.BlockError.{BlockError}
+use Rattle.block_diag_ldlt.specs.declared.cores.BlockError.TheVariants.{NotFinite, Poor}
 use Rattle.refusal.specs.Refusal.{Told}
 use Rattle.order.specs.Order.{sizes_of}
 use Rattle.scalars.specs.Bodies.{offsets}
@@ -88,28 +89,27 @@ unfolding steps
 rows-sized n tol a zero = (refl, refl)
 rows-sized n tol a (suc j) = row_sized n tol (length a) j _ (rows-sized n tol a j)
 
-pub block-sized : (n : ℕ) (tol : Float) (a : List Float) (r : LdltResult) (unit d : List Float) → ◌≡◌ {A = Settled × List Float × List Float} (block_ldlt n tol a) (Accepted r, unit, d) → (length unit ≡ length a) × (length d ≡ n)
+pub block-sized : (n : ℕ) (tol : Float) (a : List Float) (r : LdltResult) (unit d : List Float) → ◌≡◌ {A = Result LdltResult BlockError × List Float × List Float} (block_ldlt n tol a) (Ok r, unit, d) → (length unit ≡ length a) × (length d ≡ n)
 unfolding block_ldlt ldlt clear_upper
 block-sized n tol a r unit d e = go (steps (ldlt_row n tol) n (dense.going a [])) (rows-sized n tol a n) e
   where
     -- a refusal is not accepted
-    accepts : Settled → ℕ
-    accepts (Accepted k) = 1
-    accepts (NotFinite place pivot) = 0
-    accepts (Poor condition) = 0
+    accepts : Result LdltResult BlockError → ℕ
+    accepts (Ok k) = 1
+    accepts (Err e) = 0
 
-    other : (x : Settled) → accepts x ≡ 0 → x ≡ Accepted r → ⊥
+    other : (x : Result LdltResult BlockError) → accepts x ≡ 0 → x ≡ Ok r → ⊥
     other x z q = let o : ◌≡◌ {A = ℕ} 0 1 = sym z ∙ ap accepts q in omega arith
 
-    parts : (k : LdltResult) (l p : List Float) → ◌≡◌ {A = Settled × List Float × List Float} (Accepted k, l, p) (Accepted r, unit, d) → length l ≡ length a → length p ≡ n → (length unit ≡ length a) × (length d ≡ n)
-    parts k l p q hl hp = (ap length (ap (λ (t : Settled × List Float × List Float). t.1) (sym q)) ∙ hl, ap length (ap (λ (t : Settled × List Float × List Float). t.2) (sym q)) ∙ hp)
+    parts : (k : LdltResult) (l p : List Float) → ◌≡◌ {A = Result LdltResult BlockError × List Float × List Float} (Ok k, l, p) (Ok r, unit, d) → length l ≡ length a → length p ≡ n → (length unit ≡ length a) × (length d ≡ n)
+    parts k l p q hl hp = (ap length (ap (λ (t : Result LdltResult BlockError × List Float × List Float). t.1) (sym q)) ∙ hl, ap length (ap (λ (t : Result LdltResult BlockError × List Float × List Float). t.2) (sym q)) ∙ hp)
 
-    go : (run : dense.Run) → RowsSized (length a) n run → ◌≡◌ {A = Settled × List Float × List Float} (block.settle n (dense.finish n tol run)) (Accepted r, unit, d) → (length unit ≡ length a) × (length d ≡ n)
-    go (dense.stopped j x) h q = absurd (other _ refl (ap (λ (t : Settled × List Float × List Float). t.0) q))
+    go : (run : dense.Run) → RowsSized (length a) n run → ◌≡◌ {A = Result LdltResult BlockError × List Float × List Float} (block.settle n (dense.finish n tol run)) (Ok r, unit, d) → (length unit ≡ length a) × (length d ≡ n)
+    go (dense.stopped j x) h q = absurd (other _ refl (ap (λ (t : Result LdltResult BlockError × List Float × List Float). t.0) q))
     go (dense.going l p) h q = poor (result_of tol p n) (is_poor (result_of tol p n)) q
       where
-        poor : (k : LdltResult) (b : Bool) → ◌≡◌ {A = Settled × List Float × List Float} (cond b (Poor k.pivot_condition, nans (n * n), nans n) (Accepted k, clear_upper n l, p)) (Accepted r, unit, d) → (length unit ≡ length a) × (length d ≡ n)
-        poor k true q = absurd (other _ refl (ap (λ (t : Settled × List Float × List Float). t.0) q))
+        poor : (k : LdltResult) (b : Bool) → ◌≡◌ {A = Result LdltResult BlockError × List Float × List Float} (cond b (Err (Poor k.pivot_condition), nans (n * n), nans n) (Ok k, clear_upper n l, p)) (Ok r, unit, d) → (length unit ≡ length a) × (length d ≡ n)
+        poor k true q = absurd (other _ refl (ap (λ (t : Result LdltResult BlockError × List Float × List Float). t.0) q))
         poor k false q = parts k (clear_upper n l) p q (steps-length _ (λ r. steps-length _ (λ u a. length-set a _ _) _) n l ∙ h.0) h.1
 
 -- ---- the column being worked
@@ -174,8 +174,8 @@ module _ (a : System) (j : ℕ) where
       out : (b : Column) → made b ≡ made c → b ≡ c
       out b p = cc
 
-      go : (r : Settled × List Float × List Float) → block_ldlt (dim a j) a.tol (body_or (dim a j * dim a j) (s.work j)) ≡ r → settled_by a j s r ≡ made c → ColumnSized c
-      go (Accepted r, unit, d) is p =
+      go : (r : Result LdltResult BlockError × List Float × List Float) → block_ldlt (dim a j) a.tol (body_or (dim a j * dim a j) (s.work j)) ≡ r → settled_by a j s r ≡ made c → ColumnSized c
+      go (Ok r, unit, d) is p =
           let z = block-sized (dim a j) a.tol _ r unit d is in
           subst ColumnSized (out (solved a j s unit d) p)
           (record {
@@ -183,8 +183,8 @@ module _ (a : System) (j : ℕ) where
             of_d = z.1;
             of_body = λ i lo hi. right-length (dim a i) (dim a j) unit d _ ∙ h i (omega arith) hi;
           })
-      go (NotFinite place pivot, unit, d) is p = never (refused _) p _ refl
-      go (Poor condition, unit, d) is p = never (refused _) p _ refl
+      go (Err (NotFinite place pivot), unit, d) is p = never (refused _) p _ refl
+      go (Err (Poor condition), unit, d) is p = never (refused _) p _ refl
 
 -- ---- the run
 

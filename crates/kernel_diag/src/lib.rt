@@ -12,6 +12,7 @@ use crate::cores::{diag_matsolve_core, diag_solve_core};
 use refusal::{ShapeError, area, size};
 
 // y := D⁻¹ y, with d and y of n numbers.
+// Kept: each calls its own shapes and its own core; these two lines are all that it shares with the others.
 pub fn diag_solve_inplaced(n: usize, d: &[f64], y: &mut [f64]) -> Result<(), ShapeError>
     ensures { Answers (diag_verdict n (length d.now) (length y.old)) y.old (diag_solve n d.now y.old) result y.new }
 {
@@ -21,6 +22,7 @@ pub fn diag_solve_inplaced(n: usize, d: &[f64], y: &mut [f64]) -> Result<(), Sha
 }
 
 // Y := D⁻¹ Y, with d of n numbers and Y of n rows and nrhs columns.
+// Kept: each calls its own shapes and its own core; these two lines are all that it shares with the others.
 pub fn diag_matsolve_inplaced(
     n: usize,
     nrhs: usize,

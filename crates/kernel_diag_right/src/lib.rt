@@ -11,6 +11,7 @@ use crate::cores::diag_right_matsolve_core;
 use refusal::{ShapeError, area, size};
 
 // Y := Y D⁻¹, with d of n numbers and Y of m rows and n columns.
+// Kept: each calls its own shapes and its own core; these two lines are all that it shares with the others.
 pub fn diag_right_matsolve_inplace(
     m: usize,
     n: usize,

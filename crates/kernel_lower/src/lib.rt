@@ -11,6 +11,7 @@ use crate::cores::{lower_matsolve_core, lower_solve_core, matsolve_shapes, solve
 use refusal::ShapeError;
 
 // y := L⁻¹ y, with L of n rows and columns and y of n numbers.
+// Kept: each calls its own shapes and its own core; these two lines are all that it shares with the others.
 pub fn lower_solve_inplace(n: usize, l: &[f64], y: &mut [f64]) -> Result<(), ShapeError>
     ensures { Answers (solve_verdict n (length l.now) (length y.old)) y.old (lower_solve n l.now y.old) result y.new }
 {
@@ -20,6 +21,7 @@ pub fn lower_solve_inplace(n: usize, l: &[f64], y: &mut [f64]) -> Result<(), Sha
 }
 
 // Y := L⁻¹ Y, with L of n rows and columns and Y of n rows and nrhs columns.
+// Kept: each calls its own shapes and its own core; these two lines are all that it shares with the others.
 pub fn lower_matsolve_inplace(
     n: usize,
     nrhs: usize,

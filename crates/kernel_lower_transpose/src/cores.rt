@@ -22,6 +22,7 @@ pub fn lower_transpose_solve_core(n: usize, l: &[f64], y: &mut [f64])
 }
 
 // Y := L⁻ᵀ Y, column by column.
+// Kept: a loop over columns; with the step as a closure its meaning would have to be a parameter too, and no line would go.
 pub fn lower_transpose_matsolve_core(n: usize, nrhs: usize, l: &[f64], y: &mut [f64])
     requires l_len { length l.now ≡ n * n }
     requires y_len { length y.old ≡ n * nrhs }

@@ -11,6 +11,7 @@ use crate::cores::{lower_right_solve_core, right_shapes};
 use refusal::ShapeError;
 
 // X := X L⁻¹, with L of n rows and columns and X of m rows and n columns.
+// Kept: each calls its own shapes and its own core; these two lines are all that it shares with the others.
 pub fn lower_right_solve_inplace(
     m: usize,
     n: usize,

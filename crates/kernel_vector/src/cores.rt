@@ -5,6 +5,7 @@ ghost use Rattle.kernel_vector.specs.Vector.{row_sum, sub_mat_plus_vec};
 use scalar::cores::entry;
 
 // y := y - A b
+// Kept: a loop over columns; with the step as a closure its meaning would have to be a parameter too, and no line would go.
 pub fn sub_mat_plus_vec_core(m: usize, n: usize, y: &mut [f64], a: &[f64], b: &[f64])
     requires { (length y.old ≡ m) × (length a.now ≡ m * n) × (length b.now ≡ n) }
     ensures { y.new ≡ sub_mat_plus_vec m n y.old a.now b.now }

@@ -11,6 +11,7 @@ use crate::cores::sub_mat_plus_vec_core;
 use refusal::{ShapeError, area, size};
 
 // y := y - A b, with y of m numbers, A of m rows and n columns, b of n numbers.
+// Kept: each calls its own shapes and its own core; these two lines are all that it shares with the others.
 pub fn sub_mat_plus_vec_inplace(
     m: usize,
     n: usize,

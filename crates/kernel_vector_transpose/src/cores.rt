@@ -5,6 +5,7 @@ ghost use Rattle.kernel_vector_transpose.specs.VectorTranspose.{column_sum, sub_
 use scalar::cores::entry;
 
 // x := x - Aᵀ z
+// Kept: a loop over columns; with the step as a closure its meaning would have to be a parameter too, and no line would go.
 pub fn sub_mat_transpose_plus_vec_core(m: usize, n: usize, x: &mut [f64], a: &[f64], z: &[f64])
     requires { (length x.old ≡ n) × (length a.now ≡ m * n) × (length z.now ≡ m) }
     ensures { x.new ≡ sub_mat_transpose_plus_vec m n x.old a.now z.now }

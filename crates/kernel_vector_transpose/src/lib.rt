@@ -11,6 +11,7 @@ use crate::cores::sub_mat_transpose_plus_vec_core;
 use refusal::{ShapeError, area, size};
 
 // x := x - Aᵀ z, with x of n numbers, A of m rows and n columns, z of m numbers.
+// Kept: each calls its own shapes and its own core; these two lines are all that it shares with the others.
 pub fn sub_mat_transpose_plus_vec_in_place(
     m: usize,
     n: usize,

@@ -1,13 +1,15 @@
 -- A's block (row, column): where the search has found it, what stands there; and what is loaded of it. Assumes nothing.
-use Rattle.std.specs.Prelude.{◌≡◌, ℕ, ◌+◌, ◌-◌, ◌*◌, ◌<◌, ◌≤◌, min, max, Bool, true, false, not, eqb, ltb, List, [], length}
-use mathlib.Core.Path.{sym, ap, subst, ◌∙◌}
+use Rattle.std.specs.Prelude.{◌≡◌, ℕ, ◌+◌, ◌-◌, ◌*◌, ◌<◌, ◌≤◌, min, max, Bool, true, false, not, eqb, ltb, List, [], length, Some, None}
+use mathlib.Core.Path.{refl, sym, ap, subst, ◌∙◌}
 use native.Mathlib.Omega.{arith}
 use borrow.Author.Tests.{not-false, lt-ltb, le-ltb}
 use lib.Dec.{eqb→eq}
 use lib.Ieee.{Float}
 use Rattle.graph.proofs.SetLaws.{is_true}
 use Rattle.scalar.specs.Block.{zeros}
+use Rattle.tables.specs.Search.{fault}
 use Rattle.tables.specs.Verdict.{at, column_of}
+use Rattle.tables.proofs.FaultLaws.{fault-some, fault-past}
 use Rattle.tables.proofs.SearchLaws.{first-ge, first-fails}
 use Rattle.tables.proofs.ColumnLaws.{column-is}
 use Rattle.scalars.specs.Bodies.{place_of, body_at, landed}
@@ -80,6 +82,26 @@ module _ {dims starts rows : List ℕ} {values : List Float} {bodies : List ℕ}
   missing_is p e none above =
       let t : ltb (place_of starts rows row column) (at starts (column + 1)) ≡ false = subst (λ (m : ℕ). ltb m (at starts (column + 1)) ≡ false) e (le-ltb p (at starts (column + 1)) none) in
       rw t
+
+  -- ---- as the search tells it
+
+  row-found : (p : ℕ) → Some p ≡ fault (λ q. not (eqb (at rows q) row)) (at starts column) (at starts (column + 1)) → (p ≡ place_of starts rows row column) × (p < at starts (column + 1))
+  unfolding place_of
+  row-found = fault-some (λ q. not (eqb (at rows q) row)) (at starts column) (at starts (column + 1))
+
+  row-missing : None ≡ fault (λ q. not (eqb (at rows q) row)) (at starts column) (at starts (column + 1)) → at starts (column + 1) ≤ place_of starts rows row column
+  unfolding place_of
+  row-missing = fault-past (λ q. not (eqb (at rows q) row)) (at starts column) (at starts (column + 1))
+
+  module _ (p : ℕ) (s : Some p ≡ fault (λ q. not (eqb (at rows q) row)) (at starts column) (at starts (column + 1))) where
+    pub found-fits : BodyFits dims values bodies row column p
+    found-fits = stored_fits p (row-found p s).0 (row-found p s).1
+
+    pub found-block : (above : Bool) → added (landed above (at dims row) (at dims column) (slot (at bodies p) (at bodies (p + 1) - at bodies p) values)) ≡ stored_block dims starts rows values above row column
+    found-block = block_found p (row-found p s).0 (row-found p s).1
+
+  pub none-block : None ≡ fault (λ q. not (eqb (at rows q) row)) (at starts column) (at starts (column + 1)) → (above : Bool) → stored_block dims starts rows values above row column ≡ zeros (at dims row * at dims column)
+  none-block none = missing_is (place_of starts rows row column) refl (row-missing none)
 
 -- ---- by new numbers
 

@@ -1,11 +1,12 @@
 // One column of the permuted matrix is loaded into the working column, where the tables are known to be good.
-ghost use Rattle.std.specs.Prelude.{◌≡◌, ◌+◌, ◌*◌, ◌<◌, ◌≤◌, map, length, slice_set};
+ghost use Rattle.std.specs.Prelude.{◌≡◌, ℕ, ◌+◌, ◌*◌, ◌<◌, ◌≤◌, not, map, length, ◌==◌, nat_lt, slice_set};
 ghost use Rattle.std.specs.Float.{binary64};
 ghost use Rattle.std.specs.Float.Ieee.{add};
 ghost use Rattle.scalar.specs.Scalar.{nought};
 ghost use Rattle.scalar.specs.Block.{within};
+ghost use Rattle.tables.specs.Search.{first, fault};
 ghost use Rattle.tables.specs.Verdict.{at};
-ghost use Rattle.scalars.specs.Bodies.{place_of, transposed, landed};
+ghost use Rattle.scalars.specs.Bodies.{transposed, landed};
 ghost use Rattle.machine.specs.System.{System};
 ghost use Rattle.layout.specs.Layout.{tables, RowsLaid};
 ghost use Rattle.load_column.specs.Load.{Source, Fed, LoadedColumn};
@@ -13,6 +14,7 @@ ghost use Rattle.load_column.specs.Blocks.{ColumnRises, Kept, stored_block, bloc
 
 use scalar::clear;
 use scalar::cores::entry;
+use tables::cores::wide;
 
 // Column j: its diagonal block first, then its rows as they lie in L's values. places[i] becomes where block (i, j) begins in c.
 //     dims, starts, rows, values   A, by old number; bodies: where each of its bodies begins in `values`
@@ -133,45 +135,42 @@ fn load_stored(
     requires row_in_bounds { (row < length dims.now) × (column < length dims.now) × (length y.old ≡ at dims.now row * at dims.now column) }
     ensures { y.new ≡ stored_block dims.now starts.now rows.now values.now above row column }
 {
-    let p = find_row(starts, rows, row, column);
-    let end = starts[column + 1] as usize;
-    if p < end {
-        let b = bodies[p] as usize;
-        let e = bodies[p + 1] as usize;
-        load_body(
-            dims[row] as usize,
-            dims[column] as usize,
-            above,
-            &values[b..e],
-            y,
-        );
-    } else {
-        clear(y);
+    match find_row(starts, rows, row, column) {
+        Some(p) => {
+            let b = bodies[p] as usize;
+            let e = bodies[p + 1] as usize;
+            load_body(
+                dims[row] as usize,
+                dims[column] as usize,
+                above,
+                &values[b..e],
+                y,
+            );
+        }
+        None => clear(y),
     }
 }
 
-// The place of A's block (row, column) among the stored ones, by halving; the end of its column where A stores none.
-fn find_row(starts: &[u32], rows: &[u32], row: usize, column: usize) -> usize
+// The place of A's block (row, column) among the stored ones, if A stores it.
+pub fn find_row(starts: &[u32], rows: &[u32], row: usize, column: usize) -> Option<usize>
     requires { ColumnRises starts.now rows.now column }
-    ensures { result ≡ place_of starts.now rows.now row column }
+    ensures { result ≡ fault (λ p. not (at rows.now p == row)) (at starts.now column) (at starts.now (column + 1)) }
 {
-    let end = starts[column + 1] as usize;
-    let mut lo = starts[column] as usize;
-    let mut hi = end;
-    while lo < hi {
-        let mid = lo + (hi - lo) / 2;
-        if (rows[mid] as usize) < row {
-            lo = mid + 1;
-        } else {
-            hi = mid;
-        }
+    let end = wide(starts[column + 1]);
+    let place = lower_bound(rows, wide(starts[column]), end, row);
+    if place < end && wide(rows[place]) == row {
+        return Some(place);
     }
-    if lo < end {
-        if rows[lo] as usize == row {
-            return lo;
-        }
-    }
-    end
+    None
+}
+
+// The first place of from..end whose row is not below `row`, and the end where each is: by halving, as the rows ascend.
+pub fn lower_bound(rows: &[u32], from: usize, end: usize, row: usize) -> usize
+    requires bounds { (from ≤ end) × (end ≤ length rows.now) }
+    requires rises { (p q : ℕ) → from ≤ p → p < q → q < end → at rows.now p < at rows.now q }
+    ensures { result ≡ first (λ p. nat_lt (at rows.now p) row) from end }
+{
+    from + rows[from..end].partition_point(|r| wide(*r) < row)
 }
 
 // y becomes 0.0 + each number of a body of height h and width w, transposed where it lands above the diagonal.

@@ -6,7 +6,7 @@ use mathlib.Core.Logic.{⊎_elim}
 use mathlib.Core.Path.{◌≡◌, refl, sym, ap, ap₂, ◌∙◌}
 use native.Mathlib.Omega.{arith}
 use lib.Dec.{T, eqb, ltb, lt→ltb}
-use Rattle.graph.specs.Sets.{elem, any, keep, filter, from, gather}
+use Rattle.graph.specs.Sets.{elem, any, filter, from, gather}
 use Rattle.graph.specs.Count.{Triple, triple}
 use Rattle.graph.proofs.CountLaws.{same_test}
 use Rattle.graph.proofs.SetLaws.{elem-head, elem-tail, elem-cases, filter-elim, filter-intro}

@@ -16,8 +16,10 @@ use Rattle.graph.specs.Symbolic.{reach, first}
 use Rattle.graph.specs.Count.{Triple, triple}
 use Rattle.graph.proofs.SetLaws.{is_true, elem-head, elem-tail, elem-cases, filter-elim, between-elim, filter-ext}
 use Rattle.block_diag_ldlt.specs.Block.{block_ldlt}
-use Rattle.block_diag_ldlt.specs.declared.cores.Settled.{Settled}
-use Rattle.block_diag_ldlt.specs.declared.cores.Settled.TheVariants.{Accepted, NotFinite, Poor}
+use Rattle.std.specs.Prelude.{Result, Ok, Err}
+use Rattle.dense_pivots.specs.declared.LdltResult.{LdltResult}
+use Rattle.block_diag_ldlt.specs.declared.cores.BlockError.{BlockError}
+use Rattle.block_diag_ldlt.specs.declared.cores.BlockError.TheVariants.{NotFinite, Poor}
 use Rattle.dense_solve_right.specs.SolveRight.{ldlt_right_matsolve}
 use Rattle.kernel_product.specs.Product.{sub_mat_diag_mat_t}
 use Rattle.machine.specs.System.{System, blocks, links, dim}
@@ -123,7 +125,7 @@ module _ (j : ℕ) (a a' : System) (s s' : State) (lt : j < blocks a) (g : Agree
   same-factor : block_ldlt (dim a j) a.tol (body_or (dim a j * dim a j) ((worked a j s).work j)) ≡ block_ldlt (dim a' j) a'.tol (body_or (dim a' j * dim a' j) ((worked a' j s').work j))
   same-factor =
       ap (λ (w : Option (List Float)). block_ldlt (dim a j) a.tol (body_or (dim a j * dim a j) w)) (same-work j (omega arith) lt)
-      ∙ ap₂ {C = Settled × List Float × List Float} (λ d t. block_ldlt (d j) t (body_or (d j * d j) ((worked a' j s').work j))) same-dim g.given.tol
+      ∙ ap₂ {C = Result LdltResult BlockError × List Float × List Float} (λ d t. block_ldlt (d j) t (body_or (d j * d j) ((worked a' j s').work j))) same-dim g.given.tol
 
   -- its rows, right-solved
   same-solved : (unit d : List Float) → Same (solved a j (worked a j s) unit d) (solved a' j (worked a' j s') unit d)
@@ -144,13 +146,13 @@ module _ (j : ℕ) (a a' : System) (s s' : State) (lt : j < blocks a) (g : Agree
   same-made : SameMade (made_of a j s) (made_of a' j s')
   unfolding finish settled_by
   same-made =
-      subst (λ (r : Settled × List Float × List Float). SameMade (made_of a j s) (settled_by a' j (worked a' j s') r)) same-factor
+      subst (λ (r : Result LdltResult BlockError × List Float × List Float). SameMade (made_of a j s) (settled_by a' j (worked a' j s') r)) same-factor
       (go (block_ldlt (dim a j) a.tol (body_or (dim a j * dim a j) ((worked a j s).work j))))
     where
-      go : (r : Settled × List Float × List Float) → SameMade (settled_by a j (worked a j s) r) (settled_by a' j (worked a' j s') r)
-      go (Accepted r, unit, d) = same-solved unit d
-      go (NotFinite place pivot, unit, d) = refl
-      go (Poor condition, unit, d) = refl
+      go : (r : Result LdltResult BlockError × List Float × List Float) → SameMade (settled_by a j (worked a j s) r) (settled_by a' j (worked a' j s') r)
+      go (Ok r, unit, d) = same-solved unit d
+      go (Err (NotFinite place pivot), unit, d) = refl
+      go (Err (Poor condition), unit, d) = refl
 
 pub locality : Locality
 locality = same-made

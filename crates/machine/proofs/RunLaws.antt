@@ -25,7 +25,7 @@ use Rattle.graph.proofs.SymbolicLaws.{IsColumn, first_least, columns_at, columns
 use Rattle.graph.proofs.SumLaws.{filter-all}
 use Rattle.graph.proofs.Whole.{Whole, whole_in, linked-symm}
 use Rattle.machine.specs.System.{System, blocks, order, links, dim, holds, loaded}
-use Rattle.machine.specs.Machine.{State, Column, rows_at, touched, load, products, reached, sequence, worked, finish, Run, going, stopped, stored, work_column, start, run_to, run}
+use Rattle.machine.specs.Machine.{State, Column, rows_at, touched, load, reached, sequence, worked, finish, Run, going, stopped, stored, work_column, start, run_to, run}
 use Rattle.machine.specs.Claims.{Demand3}
 use Rattle.machine.proofs.ListLaws.{gather_ext, gather-last, works-sequence}
 use Rattle.machine.proofs.StepLaws.{row_lists, listed, products-finished, products-done, products-touched, stored-going, finish-made, rows_append}

@@ -9,8 +9,10 @@ use lib.Dec.{eqb}
 use lib.Ieee.{Float}
 use lib.ListN.{length, get_or, length-append, get_or-map}
 use Rattle.block_diag_ldlt.specs.Block.{block_ldlt}
-use Rattle.block_diag_ldlt.specs.declared.cores.Settled.{Settled}
-use Rattle.block_diag_ldlt.specs.declared.cores.Settled.TheVariants.{Accepted, NotFinite, Poor}
+use Rattle.std.specs.Prelude.{Result, Ok, Err}
+use Rattle.dense_pivots.specs.declared.LdltResult.{LdltResult}
+use Rattle.block_diag_ldlt.specs.declared.cores.BlockError.{BlockError}
+use Rattle.block_diag_ldlt.specs.declared.cores.BlockError.TheVariants.{NotFinite, Poor}
 use Rattle.refusal.specs.Refusal.{Told}
 use Rattle.graph.specs.Sets.{elem}
 use Rattle.graph.specs.Count.{Triple, triple}
@@ -83,10 +85,10 @@ finish-made a j s c e = go (block_ldlt (dim a j) a.tol (body_or _ (s.work j))) e
     out : (b : Column) → made b ≡ made c → c ≡ b
     out b p = cc
 
-    go : (r : Settled × List Float × List Float) → settled_by a j s r ≡ made c → (unit : List Float) × (d : List Float) × (c ≡ solved a j s unit d)
-    go (Accepted r, unit, d) p = (unit, d, out (solved a j s unit d) p)
-    go (NotFinite place pivot, unit, d) p = never (refused _) p _ refl
-    go (Poor condition, unit, d) p = never (refused _) p _ refl
+    go : (r : Result LdltResult BlockError × List Float × List Float) → settled_by a j s r ≡ made c → (unit : List Float) × (d : List Float) × (c ≡ solved a j s unit d)
+    go (Ok r, unit, d) p = (unit, d, out (solved a j s unit d) p)
+    go (Err (NotFinite place pivot), unit, d) p = never (refused _) p _ refl
+    go (Err (Poor condition), unit, d) p = never (refused _) p _ refl
 
 pub rows_append : (l : List Column) (c : Column) → map (λ (c : Column). c.rows) (l ++ (c ∷ [])) ≡ map (λ (c : Column). c.rows) l ++ (c.rows ∷ [])
 rows_append [] c = refl

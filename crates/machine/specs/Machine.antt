@@ -1,6 +1,6 @@
 -- The plain machine of document 01, module 7: its state, its steps, and its run over the columns. It has no plan: the rows of a column are
 -- those that its steps touched, and the parent of a column is the first of its rows. Assumes nothing.
-use Rattle.std.specs.Prelude.{ℕ, suc, ◌+◌, ◌-◌, ◌*◌, Bool, true, false, cond, List, [], ◌∷◌, ◌++◌, map, ltb, eqb, length, get_or, Float}
+use Rattle.std.specs.Prelude.{ℕ, suc, ◌+◌, ◌-◌, ◌*◌, Bool, true, false, cond, List, [], ◌∷◌, ◌++◌, map, ltb, eqb, length, get_or, Float, Result, Ok, Err}
 use Rattle.std.proofs.Math.Option.{Option, none, some}
 use Rattle.std.specs.Float.{binary64}
 use Rattle.std.specs.Float.Ieee.{mul}
@@ -12,8 +12,9 @@ use Rattle.graph.specs.Symbolic.{reach, first}
 use Rattle.graph.specs.Count.{Triple, triple}
 use Rattle.kernel_product.specs.Product.{sub_mat_diag_mat_t}
 use Rattle.block_diag_ldlt.specs.Block.{block_ldlt}
-use Rattle.block_diag_ldlt.specs.declared.cores.Settled.{Settled}
-use Rattle.block_diag_ldlt.specs.declared.cores.Settled.TheVariants.{Accepted, NotFinite, Poor}
+use Rattle.dense_pivots.specs.declared.LdltResult.{LdltResult}
+use Rattle.block_diag_ldlt.specs.declared.cores.BlockError.{BlockError}
+use Rattle.block_diag_ldlt.specs.declared.cores.BlockError.TheVariants.{NotFinite, Poor}
 use Rattle.dense_solve_right.specs.SolveRight.{ldlt_right_matsolve}
 use Rattle.machine.specs.System.{System, blocks, links, dim, loaded_row}
 
@@ -137,10 +138,10 @@ solved a j s unit d =
       d = d;
     }
 
-unfoldable pub settled_by : System → ℕ → State → Settled × List Float × List Float → Made
-settled_by a j s (Accepted r, unit, d) = made (solved a j s unit d)
-settled_by a j s (NotFinite place pivot, unit, d) = refused (pivot_not_finite j place pivot)
-settled_by a j s (Poor condition, unit, d) = refused (poorly_conditioned j condition)
+unfoldable pub settled_by : System → ℕ → State → Result LdltResult BlockError × List Float × List Float → Made
+settled_by a j s (Ok r, unit, d) = made (solved a j s unit d)
+settled_by a j s (Err (NotFinite place pivot), unit, d) = refused (pivot_not_finite j place pivot)
+settled_by a j s (Err (Poor condition), unit, d) = refused (poorly_conditioned j condition)
 
 unfoldable pub finish : System → ℕ → State → Made
 finish a j s = settled_by a j s (block_ldlt (dim a j) a.tol (body_or (dim a j * dim a j) (s.work j)))

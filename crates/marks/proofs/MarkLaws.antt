@@ -8,12 +8,14 @@ use Rattle.graph.specs.Order.{Permutes}
 use Rattle.buckets.specs.Buckets.{before}
 use Rattle.buckets.proofs.Turns.{before-next}
 use Rattle.tables.specs.Search.{sum}
+use Rattle.tables.specs.Sound.{Sizes}
 use Rattle.tables.specs.Verdict.{at}
 use Rattle.tables.proofs.SearchLaws.{sum-next, sum-end, sum-split}
 use Rattle.order.specs.Order.{sizes_of}
 use Rattle.order.proofs.Laws.{below_at}
 use Rattle.scalars.specs.Scalars.{scalar_starts, scalar_count, scalar_perm}
 use Rattle.scalars.proofs.ScalarLaws.{starts-at, length-starts, runs-apart, perm-entry, scalar-permutes, sizes_total, sizes-at}
+use Rattle.factor_tables.proofs.NeedLaws.{few-scalars}
 use Rattle.machine.specs.System.{inverse_of}
 use Rattle.solution.proofs.EdgeLaws.{scattered-turn, scattered-all}
 use Rattle.marks.specs.declared.cores.Mark.{Mark}
@@ -59,7 +61,7 @@ module _ (dims order : List ℕ) (p : Permutes (length dims) order) (tol : Float
 
     module _ (place s : ℕ) (here : place ≡ before (sizes_of dims order) k + s) where
       module _ (g : s < at dims (at order k)) where
-        pub inside : place < scalar_count dims
+        inside : place < scalar_count dims
         inside =
             let a = runs-apart (sizes_of dims order) k (length order) h in
             let z = sizes-at dims order k h in
@@ -69,8 +71,12 @@ module _ (dims order : List ℕ) (p : Permutes (length dims) order) (tol : Float
         entry : at olds (at order k) + s ≡ at perm place
         entry = ap (λ (m : ℕ). m + s) start_is ∙ sym (ap (at perm) here ∙ perm-entry dims order k s h g)
 
-        pub entry-inside : at olds (at order k) + s < scalar_count dims
+        entry-inside : at olds (at order k) + s < scalar_count dims
         entry-inside = subst (λ (m : ℕ). m < scalar_count dims) (sym entry) (below_at (scalar_count dims) perm (scalar-permutes dims order p) place inside)
+
+        -- the two places of the turn, and how many scalars there are
+        pub scalar_fits : Sizes dims → length dims ≤ 4096 → (place < scalar_count dims) × (at olds (at order k) + s < scalar_count dims) × (scalar_count dims ≤ 65536)
+        scalar_fits z few = (inside, entry-inside, few-scalars dims z few)
 
         pub up_more : (marks : List ℕ) (silent byte one : ℕ) → byte ≡ byte_at tol d place → one ≡ silent_at tol d place → UpTo dims order tol d marks silent place
             → UpTo dims order tol d (set marks (at olds (at order k) + s) byte) (silent + one) (place + 1)

@@ -73,20 +73,16 @@ fn mark_scalars(
 {
     let mut silent: usize = 0;
     let mut place: usize = 0;
-    let mut k: usize = 0;
-    while k < order.len() {
-        let old = order[k] as usize;
+    for &block in order {
+        let old = block as usize;
         let start = old_starts[old] as usize;
         let size = dims[old] as usize;
-        let mut s: usize = 0;
-        while s < size {
+        for s in 0..size {
             let m = mark_of(d[place], tol);
             marks[start + s] = byte_of(m);
             silent += silent_one(m);
             place += 1;
-            s += 1;
         }
-        k += 1;
     }
     silent
 }

@@ -1,24 +1,27 @@
--- The rows of a column by their places, the place of a row, and what the end of the search by halving says of the column. Assumes nothing.
-use Rattle.std.specs.Prelude.{◌≡◌, ℕ, suc, ◌+◌, ◌-◌, ◌<◌, ◌≤◌, Bool, true, false, T, eqb, ltb, List, [], ◌∷◌, length, take}
+-- The rows of a column by their places, the place of a row, and what it says of the column. Assumes nothing.
+use Rattle.std.specs.Prelude.{◌≡◌, ℕ, suc, ◌+◌, ◌-◌, ◌<◌, ◌≤◌, Bool, true, false, T, eqb, ltb, not, is_some, List, [], ◌∷◌, length, take, slice_get, Option, Some, None}
 use mathlib.Core.Logic.{⊎_elim}
-use mathlib.Core.Path.{sym, ap, subst, ◌∙◌}
+use mathlib.Core.Path.{refl, sym, ap, subst, ◌∙◌}
 use native.Mathlib.Nat.{eq-or-lt_of_le}
 use native.Mathlib.Omega.{arith}
-use borrow.Author.Tests.{ltb-true, ltb-false, lt-ltb, le-ltb}
+use borrow.Author.Tests.{ltb-true, ltb-false, lt-ltb, le-ltb, eqb-false, not-true, not-false}
 use lib.Dec.{eqb→eq}
 use lib.Seq.{slice, slice-cons, slice_empty, get_or-take, get_or-drop, length-slice}
 use Rattle.graph.specs.Sets.{elem}
 use Rattle.graph.specs.Links.{rows_in}
-use Rattle.graph.proofs.SetLaws.{eqb_of, false_of}
+use Rattle.graph.specs.Symbolic as symbolic
+use Rattle.graph.proofs.SetLaws.{eqb_of, is_true, true_of, false_of}
 use Rattle.graph.proofs.CountLaws.{same_test}
 use Rattle.buckets.proofs.Lists.{elem_at}
-use Rattle.tables.specs.Search.{first}
+use Rattle.std.specs.Option.{unwrap_or}
+use Rattle.tables.specs.Search.{first, fault}
 use Rattle.tables.specs.Verdict.{at}
 use Rattle.tables.specs.Sound.{Columns}
 use Rattle.tables.proofs.SearchLaws.{lt-or-ge, first-ge, first-before, first-fails, first-none, first-at, first_past, first-end}
+use Rattle.tables.proofs.FaultLaws.{fault-some, fault-clear}
 use Rattle.tables.proofs.TableLaws.{place-of}
+use Rattle.elimination_tree.specs.Tree.{code}
 use Rattle.load_column.specs.Blocks.{ColumnRises}
-use Rattle.load_column.proofs.FindLaws.{Halved}
 use Rattle.match_rows.specs.Rows.{heads}
 
 -- ---- a part of a list by its places
@@ -54,24 +57,36 @@ module _ {least : ℕ → ℕ} {n : ℕ} {starts rows : List ℕ} (c : Columns l
 
 -- ---- the place of a row: the first whose row is not below it
 
+-- the rows before this place are below this row, and none from it on is
+pub record Parted (starts rows : List ℕ) (row column place : ℕ) : Type 0 where
+  pub low : at starts column ≤ place
+  pub high : place ≤ at starts (column + 1)
+  pub before : (p : ℕ) → at starts column ≤ p → p < place → at rows p < row
+  pub behind : (p : ℕ) → place ≤ p → p < at starts (column + 1) → row ≤ at rows p
+
 module _ {starts rows : List ℕ} {row column : ℕ} (c : ColumnRises starts rows column) where
-  -- a search that begins behind rows which are below
-  pub halved-from : (from : ℕ) → at starts column ≤ from → from ≤ at starts (column + 1) → ((p : ℕ) → at starts column ≤ p → p < from → at rows p < row) → Halved starts rows row column from (at starts (column + 1))
-  halved-from from a b below = record { low = a; ordered = b; high = omega arith; before = below; behind = λ p h l. absurd (omega arith) }
-
-  pub place-met : {lo hi : ℕ} → Halved starts rows row column lo hi → hi ≤ lo → lo ≡ first (λ p. ltb (at rows p) row) (at starts column) (at starts (column + 1))
-  place-met {lo} {hi} g met =
+  -- where the rows before a place are below this one, and its own is not
+  pub place-met : (place : ℕ) → at starts column ≤ place → place ≤ at starts (column + 1) → ((p : ℕ) → at starts column ≤ p → p < place → at rows p < row) → (place < at starts (column + 1) → row ≤ at rows place)
+      → place ≡ first (λ p. ltb (at rows p) row) (at starts column) (at starts (column + 1))
+  place-met place a b before here =
       ⊎_elim
-      (λ h. sym (first-at (λ p. ltb (at rows p) row) (at starts column) lo (at starts (column + 1)) g.low h below (le-ltb (at rows lo) row (g.behind lo met h))))
-      (λ h. sym (first_past (λ p. ltb (at rows p) row) (at starts column) lo (at starts (column + 1)) g.low (omega (arith, g.ordered, g.high)) below ∙ first-end (λ p. ltb (at rows p) row) lo (at starts (column + 1)) h))
-      (lt-or-ge lo (at starts (column + 1)))
+      (λ h. sym (first-at (λ p. ltb (at rows p) row) (at starts column) place (at starts (column + 1)) a h below (le-ltb (at rows place) row (here h))))
+      (λ h. sym (first_past (λ p. ltb (at rows p) row) (at starts column) place (at starts (column + 1)) a b below ∙ first-end (λ p. ltb (at rows p) row) place (at starts (column + 1)) h))
+      (lt-or-ge place (at starts (column + 1)))
     where
-      below : (p : ℕ) → at starts column ≤ p → p < lo → ltb (at rows p) row ≡ true
-      below p a b = lt-ltb (at rows p) row (g.before p a b)
+      below : (p : ℕ) → at starts column ≤ p → p < place → ltb (at rows p) row ≡ true
+      below p a b = lt-ltb (at rows p) row (before p a b)
 
-  pub halved-at : (place : ℕ) → place ≡ first (λ p. ltb (at rows p) row) (at starts column) (at starts (column + 1)) → Halved starts rows row column place place
-  halved-at place e =
-      record { low = rw e (first-ge test (at starts column) (at starts (column + 1))); ordered = omega arith; high = high; before = below; behind = behind }
+  -- what is below is passed over
+  pub place-past : (from : ℕ) → at starts column ≤ from → from < at starts (column + 1) → ((p : ℕ) → at starts column ≤ p → p < from → at rows p < row) → at rows from < row
+      → first (λ p. ltb (at rows p) row) (from + 1) (at starts (column + 1)) ≡ first (λ p. ltb (at rows p) row) (at starts column) (at starts (column + 1))
+  place-past from a b before here =
+      sym (first_past (λ p. ltb (at rows p) row) (at starts column) (from + 1) (at starts (column + 1)) (omega arith) (omega arith)
+      (λ p l h. lt-ltb (at rows p) row (⊎_elim (λ s. before p l s) (λ s. let z : p ≡ from = omega arith in rw z here) (lt-or-ge p from))))
+
+  pub parted-at : (place : ℕ) → place ≡ first (λ p. ltb (at rows p) row) (at starts column) (at starts (column + 1)) → Parted starts rows row column place
+  parted-at place e =
+      record { low = rw e (first-ge test (at starts column) (at starts (column + 1))); high = high; before = below; behind = behind }
     where
       test : ℕ → Bool
       test p = ltb (at rows p) row
@@ -94,28 +109,44 @@ module _ {starts rows : List ℕ} {row column : ℕ} (c : ColumnRises starts row
 
 -- ---- the end of the search
 
-module _ {starts rows : List ℕ} {row column lo hi : ℕ} (c : ColumnRises starts rows column) (g : Halved starts rows row column lo hi) (met : hi ≤ lo) where
-  pub holds-here : lo < at starts (column + 1) → eqb (at rows lo) row ≡ elem row (rows_in starts rows column)
+module _ {starts rows : List ℕ} {row column place : ℕ} (c : ColumnRises starts rows column) (g : Parted starts rows row column place) where
+  pub holds-here : place < at starts (column + 1) → eqb (at rows place) row ≡ elem row (rows_in starts rows column)
   holds-here h =
-      same_test (eqb (at rows lo) row) (elem row (rows_in starts rows column))
-      (λ t. subst (λ (x : ℕ). T (elem x (rows_in starts rows column))) (eqb→eq (at rows lo) row t) (slice-elem rows (at starts column) (at starts (column + 1)) c.inside.1 lo g.low h))
+      same_test (eqb (at rows place) row) (elem row (rows_in starts rows column))
+      (λ t. subst (λ (x : ℕ). T (elem x (rows_in starts rows column))) (eqb→eq (at rows place) row t) (slice-elem rows (at starts column) (at starts (column + 1)) c.inside.1 place g.low h))
       (λ m.
       let r = slice-place rows (at starts column) (at starts (column + 1)) c.inside.1 row m in
       eqb_of (at_place r.0 r.1 r.2 r.3))
     where
-      at_place : (p : ℕ) → at starts column ≤ p → p < at starts (column + 1) → at rows p ≡ row → at rows lo ≡ row
+      at_place : (p : ℕ) → at starts column ≤ p → p < at starts (column + 1) → at rows p ≡ row → at rows place ≡ row
       at_place p a b e =
           ⊎_elim (λ s. let q = g.before p a s in absurd (omega arith))
-          (λ s. ⊎_elim (λ (z : lo ≡ p). ap (at rows) z ∙ e) (λ t. let q = c.rises lo p g.low t b in let w = g.behind lo met h in absurd (omega arith)) (eq-or-lt_of_le s))
-          (lt-or-ge p lo)
+          (λ s. ⊎_elim (λ (z : place ≡ p). ap (at rows) z ∙ e) (λ t. let q = c.rises place p g.low t b in let w = g.behind place (omega arith) h in absurd (omega arith)) (eq-or-lt_of_le s))
+          (lt-or-ge p place)
 
-  pub holds-none : at starts (column + 1) ≤ lo → false ≡ elem row (rows_in starts rows column)
+  pub holds-none : at starts (column + 1) ≤ place → false ≡ elem row (rows_in starts rows column)
   holds-none h =
       sym (false_of (elem row (rows_in starts rows column))
       (λ m.
       let r = slice-place rows (at starts column) (at starts (column + 1)) c.inside.1 row m in
       let q = g.before r.0 r.1 (omega (arith, r.2)) in
       omega (arith, r.3)))
+
+-- ---- is the row there?
+
+module _ {starts rows : List ℕ} (row : ℕ) {column : ℕ} (c : ColumnRises starts rows column) where
+  pub holds-is : (o : Option ℕ) → o ≡ fault (λ p. not (eqb (at rows p) row)) (at starts column) (at starts (column + 1)) → is_some o ≡ elem row (rows_in starts rows column)
+  holds-is (Some p) e =
+      let r = fault-some (λ p. not (eqb (at rows p) row)) (at starts column) (at starts (column + 1)) p e in
+      let l : at starts column ≤ p = rw (sym r.0) at (first-ge (λ p. not (eqb (at rows p) row)) (at starts column) (at starts (column + 1))) in
+      let f : not (eqb (at rows p) row) ≡ false = rw (sym r.0) at (first-fails (λ p. not (eqb (at rows p) row)) (at starts column) (at starts (column + 1)) c.inside.0 (rw r.0 at r.1)) in
+      let z : at rows p ≡ row = eqb→eq (at rows p) row (is_true (not-false (eqb (at rows p) row) f)) in
+      sym (true_of (elem row (rows_in starts rows column)) (subst (λ (x : ℕ). T (elem x (rows_in starts rows column))) z (slice-elem rows (at starts column) (at starts (column + 1)) c.inside.1 p l r.1)))
+  holds-is None e =
+      sym (false_of (elem row (rows_in starts rows column))
+      (λ m.
+      let r = slice-place rows (at starts column) (at starts (column + 1)) c.inside.1 row m in
+      eqb-false (at rows r.0) row (not-true (eqb (at rows r.0) row) (fault-clear (λ p. not (eqb (at rows p) row)) (at starts column) (at starts (column + 1)) e r.0 r.1 r.2)) r.3))
 
 -- ---- the first row of a column
 
@@ -138,3 +169,11 @@ module _ {starts rows : List ℕ} {j : ℕ} (c : ColumnRises starts rows j) wher
   pub heads-is : (k : ℕ) → T (heads (rows_in starts rows j) k) → (at starts j < at starts (j + 1)) × (at rows (at starts j) ≡ k)
   heads-is k t =
       ⊎_elim (λ h. (h, eqb→eq (at rows (at starts j)) k (subst T (heads-at k h) t))) (λ h. absurd (subst T (heads-none k h) t)) (lt-or-ge (at starts j) (at starts (j + 1)))
+
+  -- as the table of the parents holds it
+  pub first-code : unwrap_or (slice_get (rows_in starts rows j) 0) 4294967295 ≡ code (symbolic.first (rows_in starts rows j))
+  first-code = by-list (rows_in starts rows j)
+    where
+      by-list : (l : List ℕ) → unwrap_or (slice_get l 0) 4294967295 ≡ code (symbolic.first l)
+      by-list [] = refl
+      by-list (x ∷ l) = refl

@@ -11,8 +11,7 @@ use Rattle.tables.specs.Search.{first}
 use Rattle.tables.specs.Verdict.{at}
 use Rattle.tables.proofs.SearchLaws.{lt-or-ge, Searched, searched, passed, failed}
 use Rattle.load_column.specs.Blocks.{ColumnRises}
-use Rattle.load_column.proofs.FindLaws.{Halved, halved_down}
-use Rattle.match_rows.proofs.HalvedLaws.{halved-from, halved-at, place-met, holds-here, holds-none}
+use Rattle.match_rows.proofs.HalvedLaws.{Parted, parted-at, place-met, holds-here, holds-none}
 
 pub record Walked (starts rows : List ℕ) (c k u place : ℕ) : Type 0 where
   pub past : at starts c < u
@@ -28,10 +27,10 @@ module _ {starts rows : List ℕ} {c k : ℕ} (rc : ColumnRises starts rows c) (
   -- where row u is, or would be
   module _ {u place place' : ℕ} (g : Walked starts rows c k u place) (h : u < at starts (c + 1)) (e : place' ≡ first (λ p. ltb (at rows p) (at rows u)) (at starts k) (at starts (k + 1))) where
     pub walk_end : at starts (k + 1) ≤ place' → u ≡ first (λ v. elem (at rows v) (rows_in starts rows k)) (at starts c + 1) (at starts (c + 1))
-    walk_end t = failed g.walk h (holds-none rk (halved-at rk place' e) (omega arith) t) refl
+    walk_end t = failed g.walk h (holds-none rk (parted-at rk place' e) t) refl
 
     pub walk_lacks : place' < at starts (k + 1) → at rows u < at rows place' → u ≡ first (λ v. elem (at rows v) (rows_in starts rows k)) (at starts c + 1) (at starts (c + 1))
-    walk_lacks l t = failed g.walk h (holds-here rk (halved-at rk place' e) (omega arith) l) (rw (ne_eqb (at rows place') (at rows u) (λ z. omega arith)))
+    walk_lacks l t = failed g.walk h (holds-here rk (parted-at rk place' e) l) (rw (ne_eqb (at rows place') (at rows u) (λ z. omega arith)))
 
     pub walk_on : place' < at starts (k + 1) → at rows place' ≤ at rows u → Walked starts rows c k (u + 1) (place' + 1)
     walk_on l t =
@@ -39,11 +38,11 @@ module _ {starts rows : List ℕ} {c k : ℕ} (rc : ColumnRises starts rows c) (
           past = omega (arith, g.past);
           within = (omega (arith, w.low), omega arith);
           below = λ p v a b s m. let r = rc.rises u v (omega (arith, g.past)) (omega arith) m in omega (arith, r, until p a b);
-          walk = passed g.walk h (holds-here rk w (omega arith) l) (rw (eq-eqb (at rows place') (at rows u) same));
+          walk = passed g.walk h (holds-here rk w l) (rw (eq-eqb (at rows place') (at rows u) same));
         }
       where
-        w : Halved starts rows (at rows u) k place' place'
-        w = halved-at rk place' e
+        w : Parted starts rows (at rows u) k place'
+        w = parted-at rk place' e
 
         same : at rows place' ≡ at rows u
         same = omega (arith, w.behind place' (omega arith) l)
@@ -53,11 +52,11 @@ module _ {starts rows : List ℕ} {c k : ℕ} (rc : ColumnRises starts rows c) (
 
   -- where it is, or would be, at the place come to
   module _ {u place : ℕ} (g : Walked starts rows c k u place) (h : u < at starts (c + 1)) where
-    here : Halved starts rows (at rows u) k place (at starts (k + 1))
-    here = halved-from rk place g.within.0 g.within.1 (λ p a b. g.below p u a b (omega arith) h)
+    here : (place < at starts (k + 1) → at rows u ≤ at rows place) → place ≡ first (λ p. ltb (at rows p) (at rows u)) (at starts k) (at starts (k + 1))
+    here = place-met rk place g.within.0 g.within.1 (λ p a b. g.below p u a b (omega arith) h)
 
     pub walk_over : at starts (k + 1) ≤ place → u ≡ first (λ v. elem (at rows v) (rows_in starts rows k)) (at starts c + 1) (at starts (c + 1))
-    walk_over t = walk_end g h (place-met rk here t) t
+    walk_over t = walk_end g h (here (λ l. absurd (omega arith))) t
 
     pub walk_next : place < at starts (k + 1) → at rows place ≡ at rows u → Walked starts rows c k (u + 1) (place + 1)
-    walk_next l e = walk_on g h (place-met rk (halved_down rk here place (omega arith) l (omega arith)) (omega arith)) l (omega arith)
+    walk_next l e = walk_on g h (here (λ s. omega arith)) l (omega arith)

@@ -1,5 +1,5 @@
 -- What a column of a factor is given: its linked rows, and the rows of each column whose first row it is. Assumes nothing.
-use Rattle.std.specs.Prelude.{◌≡◌, ℕ, zero, suc, ◌+◌, ◌<◌, ◌≤◌, min, max, Bool, false, cond, not, ◌&&◌, ◌||◌, T, List, [], ◌∷◌, length, ◌==◌, nat_le, nat_lt, slice_set}
+use Rattle.std.specs.Prelude.{◌≡◌, ℕ, zero, suc, ◌+◌, ◌<◌, ◌≤◌, min, max, Bool, false, cond, not, ◌&&◌, ◌||◌, T, List, [], ◌∷◌, length, ◌==◌, nat_le, nat_lt, slice_set, Option, Some, None}
 use Rattle.graph.specs.Sets.{elem, keep, gather}
 use Rattle.graph.specs.Links.{rows_in, linked_in}
 use Rattle.graph.specs.Symbolic as symbolic
@@ -44,6 +44,11 @@ pub record Lowest (given : ℕ → ℕ → Bool) (listed : ℕ → List ℕ) (n 
   pub within : r ≤ n
   pub before : (k i : ℕ) → k < r → k < i → i < n → T (given i k) → T (elem i (listed k))
   pub here : r < n → (i : ℕ) × (r < i) × (i < n) × T (given i r) × (T (elem i (listed r)) → ⊥)
+
+-- o is the lowest of n columns that does not list a row past it that it is given, if there is one
+abbrev pub LowestOf : (given : ℕ → ℕ → Bool) → (listed : ℕ → List ℕ) → (n : ℕ) → Option ℕ → Type 0
+LowestOf given listed n (Some r) = (r < n) × Lowest given listed n r
+LowestOf given listed n None = Lowest given listed n n
 
 -- the same least column after A's stored block (row, column): its two new numbers are a pair, unless it is on the diagonal
 unfoldable pub lowered_by : (inverse : List ℕ) → (listed : ℕ → List ℕ) → (row column least : ℕ) → ℕ

@@ -5,21 +5,20 @@
 //   first_stray      the lowest column that lists a row which is neither
 //   first_off        the lowest column whose parent is not its first row
 // Before the lowest of the four all columns are right.
-ghost use Rattle.std.specs.Prelude.{◌≡◌, ℕ, ◌+◌, ◌<◌, ◌≤◌, ◌||◌, length, replicate, ◌==◌, nat_lt};
+ghost use Rattle.std.specs.Prelude.{◌≡◌, ℕ, ◌+◌, ◌<◌, ◌≤◌, ◌||◌, length, replicate, ◌==◌, nat_lt, slice_get};
 ghost use Rattle.graph.specs.Sets.{elem, gather};
 ghost use Rattle.graph.specs.Links.{rows_in, linked_in};
 ghost use Rattle.graph.specs.Order.{Permutes};
-ghost use Rattle.graph.specs.Symbolic as symbolic;
-ghost use Rattle.tables.specs.Search.{first};
+ghost use Rattle.tables.specs.Search.{first, fault};
 ghost use Rattle.tables.specs.Verdict.{at, from_diagonal, past_diagonal};
 ghost use Rattle.tables.specs.Sound.{Columns};
 ghost use Rattle.order.specs.Order.{Inverse};
-ghost use Rattle.elimination_tree.specs.Tree.{code};
 ghost use Rattle.load_column.specs.Blocks.{ColumnRises};
-ghost use Rattle.match_rows.specs.Rows.{children, passed_on, lowered, lowered_by, given_in, headed, Lowest, stamps, column_given, Families};
+ghost use Rattle.match_rows.specs.Rows.{children, passed_on, lowered, lowered_by, given_in, headed, LowestOf, stamps, column_given, Families};
 
+use load_column::cores::{find_row, lower_bound};
 use order::cores::invert;
-use tables::cores::{NONE, wide};
+use tables::cores::{NONE, first_fault, wide};
 
 // ---- one row
 
@@ -30,23 +29,11 @@ pub fn place_from(starts: &[u32], rows: &[u32], row: usize, column: usize, from:
     requires column_bound { (at starts.now column ≤ from) × (from ≤ at starts.now (column + 1)) × ((p : ℕ) → at starts.now column ≤ p → p < from → at rows.now p < row) }
     ensures { result ≡ first (λ p. nat_lt (at rows.now p) row) (at starts.now column) (at starts.now (column + 1)) }
 {
-    let mut hi = wide(starts[column + 1]);
-    let mut lo = from;
-    if lo < hi {
-        if row <= wide(rows[lo]) {
-            return lo;
-        }
-        lo += 1;
+    let end = wide(starts[column + 1]);
+    if end <= from || row <= wide(rows[from]) {
+        return from;
     }
-    while lo < hi {
-        let mid = lo + (hi - lo) / 2;
-        if wide(rows[mid]) < row {
-            lo = mid + 1;
-        } else {
-            hi = mid;
-        }
-    }
-    lo
+    lower_bound(rows, from + 1, end, row)
 }
 
 // Is `row` among the rows of a column?
@@ -54,11 +41,7 @@ pub fn holds(starts: &[u32], rows: &[u32], row: usize, column: usize) -> bool
     requires { ColumnRises starts.now rows.now column }
     ensures { result ≡ elem row (rows_in starts.now rows.now column) }
 {
-    let place = place_from(starts, rows, row, column, wide(starts[column]));
-    if place < wide(starts[column + 1]) {
-        return wide(rows[place]) == row;
-    }
-    false
+    find_row(starts, rows, row, column).is_some()
 }
 
 // Does A link the new blocks i and k?
@@ -117,7 +100,7 @@ pub fn lower_by(
     lower(l_starts, l_rows, p, q, least)
 }
 
-// The lowest column that lacks a linked row, under the inverse of the order: a pass over A's stored blocks.
+// The lowest column that lacks a linked row, if one does, under the inverse of the order: a pass over A's stored blocks.
 pub fn lowest_unlinked(
     starts: &[u32],
     rows: &[u32],
@@ -125,24 +108,20 @@ pub fn lowest_unlinked(
     inverse: &[u32],
     l_starts: &[u32],
     l_rows: &[u32],
-) -> usize
+) -> Option<usize>
     requires columns { Columns from_diagonal (length order.now) starts.now rows.now × Inverse (length order.now) order.now inverse.now }
     requires columns_2 { Columns past_diagonal (length order.now) l_starts.now l_rows.now }
-    ensures { Lowest (linked_in starts.now rows.now order.now) (rows_in l_starts.now l_rows.now) (length order.now) result }
+    ensures { LowestOf (linked_in starts.now rows.now order.now) (rows_in l_starts.now l_rows.now) (length order.now) result }
 {
     let n = order.len();
     let mut least = n;
-    let mut c = 0;
-    while c < n {
+    for c in 0..n {
         let end = wide(starts[c + 1]);
-        let mut u = wide(starts[c]);
-        while u < end {
+        for u in wide(starts[c])..end {
             least = lower_by(inverse, l_starts, l_rows, wide(rows[u]), c, least);
-            u += 1;
         }
-        c += 1;
     }
-    least
+    (least < n).then_some(least)
 }
 
 // The same, the inverse made in the table lent.
@@ -153,84 +132,80 @@ pub fn unlinked_with(
     l_starts: &[u32],
     l_rows: &[u32],
     inverse: &mut [u32],
-) -> usize
+) -> Option<usize>
     requires order_len_bound { (length order.now ≤ 4096) × Columns from_diagonal (length order.now) starts.now rows.now × Permutes (length order.now) order.now }
     requires columns { Columns past_diagonal (length order.now) l_starts.now l_rows.now × (length order.now ≤ length inverse.old) }
-    ensures { Lowest (linked_in starts.now rows.now order.now) (rows_in l_starts.now l_rows.now) (length order.now) result }
+    ensures { LowestOf (linked_in starts.now rows.now order.now) (rows_in l_starts.now l_rows.now) (length order.now) result }
 {
     let n = order.len();
     invert(order, &mut inverse[..n]);
     lowest_unlinked(starts, rows, order, &inverse[..n], l_starts, l_rows)
 }
 
-// The lowest column that lacks a linked row; the number of blocks where there is none.
+// The lowest column that lacks a linked row, if one does.
 pub fn first_unlinked(
     starts: &[u32],
     rows: &[u32],
     order: &[u32],
     l_starts: &[u32],
     l_rows: &[u32],
-) -> usize
+) -> Option<usize>
     requires order_len_bound { (length order.now ≤ 4096) × Columns from_diagonal (length order.now) starts.now rows.now × Permutes (length order.now) order.now }
     requires columns { Columns past_diagonal (length order.now) l_starts.now l_rows.now }
-    ensures { Lowest (linked_in starts.now rows.now order.now) (rows_in l_starts.now l_rows.now) (length order.now) result }
+    ensures { LowestOf (linked_in starts.now rows.now order.now) (rows_in l_starts.now l_rows.now) (length order.now) result }
 {
     let mut inverse = [0u32; 4096];
     unlinked_with(starts, rows, order, l_starts, l_rows, &mut inverse)
 }
 
-// The first place of column c, behind its first, whose row column k does not list; the end of column c where there is none. Both
-// ascend: a walk of the two side by side. A row that is not the next of column k is sought behind it.
-pub fn unpassed_in(l_starts: &[u32], l_rows: &[u32], c: usize, k: usize) -> usize
+// The first place of column c, behind its first, whose row column k does not list, if there is one. Both ascend: a walk of the two
+// side by side. A row that is not the next of column k is sought behind it.
+pub fn unpassed_in(l_starts: &[u32], l_rows: &[u32], c: usize, k: usize) -> Option<usize>
     requires { ColumnRises l_starts.now l_rows.now c × ColumnRises l_starts.now l_rows.now k × (at l_starts.now c < at l_starts.now (c + 1)) }
-    ensures { result ≡ first (λ u. elem (at l_rows.now u) (rows_in l_starts.now l_rows.now k)) (at l_starts.now c + 1) (at l_starts.now (c + 1)) }
+    ensures { result ≡ fault (λ u. elem (at l_rows.now u) (rows_in l_starts.now l_rows.now k)) (at l_starts.now c + 1) (at l_starts.now (c + 1)) }
 {
     let end = wide(l_starts[c + 1]);
     let last = wide(l_starts[k + 1]);
-    let mut u = wide(l_starts[c]) + 1;
     let mut place = wide(l_starts[k]);
-    while u < end {
+    for u in wide(l_starts[c]) + 1..end {
         if last <= place {
-            return u;
+            return Some(u);
         }
         let row = wide(l_rows[u]);
         if wide(l_rows[place]) != row {
             place = place_from(l_starts, l_rows, row, k, place);
             if last <= place {
-                return u;
+                return Some(u);
             }
             if row < wide(l_rows[place]) {
-                return u;
+                return Some(u);
             }
         }
         place += 1;
-        u += 1;
     }
-    u
+    None
 }
 
-// The lowest of n columns that lacks a row of a child; n where there is none. The first row of a column is its parent: the others,
-// which are greater, are the parent's as well.
-pub fn first_unpassed(l_starts: &[u32], l_rows: &[u32], n: usize) -> usize
+// The lowest of n columns that lacks a row of a child, if one does. The first row of a column is its parent: the others, which are
+// greater, are the parent's as well.
+pub fn first_unpassed(l_starts: &[u32], l_rows: &[u32], n: usize) -> Option<usize>
     requires { Columns past_diagonal n l_starts.now l_rows.now }
-    ensures { Lowest (passed_on (rows_in l_starts.now l_rows.now) n) (rows_in l_starts.now l_rows.now) n result }
+    ensures { LowestOf (passed_on (rows_in l_starts.now l_rows.now) n) (rows_in l_starts.now l_rows.now) n result }
 {
     let mut least = n;
-    let mut c = 0;
-    while c < n {
+    for c in 0..n {
         let from = wide(l_starts[c]);
         let end = wide(l_starts[c + 1]);
         if from < end {
             let parent = wide(l_rows[from]);
             if parent < least {
-                if unpassed_in(l_starts, l_rows, c, parent) < end {
+                if unpassed_in(l_starts, l_rows, c, parent).is_some() {
                     least = parent;
                 }
             }
         }
-        c += 1;
     }
-    least
+    (least < n).then_some(least)
 }
 
 // ---- a row is one too many
@@ -247,8 +222,7 @@ pub fn link_children(
     requires head_value { (head.old ≡ replicate 4096 0) × (length sibling.old ≡ 4096) }
     ensures { Families (rows_in l_starts.now l_rows.now) n head.new sibling.new }
 {
-    let mut c = 0;
-    while c < n {
+    for c in 0..n {
         let from = wide(l_starts[c]);
         let end = wide(l_starts[c + 1]);
         if from < end {
@@ -256,7 +230,6 @@ pub fn link_children(
             sibling[c] = head[k];
             head[k] = (c + 1) as u32;
         }
-        c += 1;
     }
 }
 
@@ -266,11 +239,9 @@ pub fn stamp_rows(l_starts: &[u32], l_rows: &[u32], c: usize, v: u32, seen: &mut
     ensures { seen.new ≡ stamps v (rows_in l_starts.now l_rows.now c) seen.old }
 {
     let end = wide(l_starts[c + 1]);
-    let mut u = wide(l_starts[c]);
-    while u < end {
+    for u in wide(l_starts[c])..end {
         let i = wide(l_rows[u]);
         seen[i] = v;
-        u += 1;
     }
 }
 
@@ -290,6 +261,7 @@ pub fn stamp_children(
     ensures { seen.new ≡ stamps v (gather (rows_in l_starts.now l_rows.now) (children (rows_in l_starts.now l_rows.now) k n)) seen.old }
 {
     let mut x = wide(head[k]);
+    // Kept: a walk down a list of children, whose end is 0.
     while x > 0 {
         let c = x - 1;
         stamp_rows(l_starts, l_rows, c, v, seen);
@@ -319,7 +291,7 @@ pub fn row_given(
     linked(starts, rows, order, i, k)
 }
 
-// The first place of column k whose row is neither stamped nor linked; the end of the column where there is none.
+// The first place of column k whose row is neither stamped nor linked, if there is one.
 pub fn stray_in(
     starts: &[u32],
     rows: &[u32],
@@ -329,20 +301,18 @@ pub fn stray_in(
     seen: &[u32; 4096],
     k: usize,
     v: u32,
-) -> usize
+) -> Option<usize>
     requires order_len_bound { (length order.now ≤ 4096) × Columns from_diagonal (length order.now) starts.now rows.now × Permutes (length order.now) order.now }
     requires k_in_bounds { (k < length order.now) × Columns past_diagonal (length order.now) l_starts.now l_rows.now × (length seen.now ≡ 4096) }
-    ensures { result ≡ first (λ u. (at seen.now (at l_rows.now u) == v) || linked_in starts.now rows.now order.now (at l_rows.now u) k) (at l_starts.now k) (at l_starts.now (k + 1)) }
+    ensures { result ≡ fault (λ u. (at seen.now (at l_rows.now u) == v) || linked_in starts.now rows.now order.now (at l_rows.now u) k) (at l_starts.now k) (at l_starts.now (k + 1)) }
 {
-    let end = wide(l_starts[k + 1]);
-    let mut u = wide(l_starts[k]);
-    while u < end {
-        if !row_given(starts, rows, order, l_rows, seen, k, v, u) {
-            return u;
-        }
-        u += 1;
-    }
-    u
+    first_fault(
+        wide(l_starts[k]),
+        wide(l_starts[k + 1]),
+        |u|
+            requires { Columns from_diagonal (length order.now) starts.now rows.now × Permutes (length order.now) order.now × (length order.now ≤ 4096) × (k < length order.now) × (u < length l_rows.now) × (at l_rows.now u < length order.now) × (length seen.now ≡ 4096) }
+        { row_given(starts, rows, order, l_rows, seen, k, v, u) },
+    )
 }
 
 // Is each row that column k lists linked, or a row of a child? `seen` holds the stamps of the columns before, each its number plus one.
@@ -365,52 +335,47 @@ pub fn column_given(
 {
     let v = (k + 1) as u32;
     stamp_children(l_starts, l_rows, order.len(), head, sibling, k, v, seen);
-    let u = stray_in(starts, rows, order, l_starts, l_rows, seen, k, v);
-    let end = wide(l_starts[k + 1]);
-    end <= u
+    stray_in(starts, rows, order, l_starts, l_rows, seen, k, v).is_none()
 }
 
-// The lowest column that lists a row that it is not given; the number of blocks where there is none.
+// The lowest column that lists a row that it is not given, if one does.
 pub fn first_stray(
     starts: &[u32],
     rows: &[u32],
     order: &[u32],
     l_starts: &[u32],
     l_rows: &[u32],
-) -> usize
+) -> Option<usize>
     requires order_len_bound { (length order.now ≤ 4096) × Columns from_diagonal (length order.now) starts.now rows.now × Permutes (length order.now) order.now }
     requires columns { Columns past_diagonal (length order.now) l_starts.now l_rows.now }
-    ensures { result ≡ first (column_given (given_in starts.now rows.now order.now l_starts.now l_rows.now) l_starts.now l_rows.now) 0 (length order.now) }
+    ensures { result ≡ fault (column_given (given_in starts.now rows.now order.now l_starts.now l_rows.now) l_starts.now l_rows.now) 0 (length order.now) }
 {
     let mut head = [0u32; 4096];
     let mut sibling = [0u32; 4096];
     let mut seen = [0u32; 4096];
     link_children(l_starts, l_rows, order.len(), &mut head, &mut sibling);
-    let mut k = 0;
-    while k < order.len() {
+    for k in 0..order.len() {
         if !column_given(
             starts, rows, order, l_starts, l_rows, &head, &sibling, k, &mut seen,
         ) {
-            return k;
+            return Some(k);
         }
-        k += 1;
     }
-    k
+    None
 }
 
 // ---- a parent is off
 
-// The first row of column k, or none.
-pub fn first_row(l_starts: &[u32], l_rows: &[u32], k: usize) -> u32
+// The first row of column k, if it has one.
+pub fn first_row(l_starts: &[u32], l_rows: &[u32], k: usize) -> Option<u32>
     requires { ColumnRises l_starts.now l_rows.now k }
-    ensures { result ≡ code (symbolic.first (rows_in l_starts.now l_rows.now k)) }
+    ensures { result ≡ slice_get (rows_in l_starts.now l_rows.now k) 0 }
 {
     let from = wide(l_starts[k]);
-    let end = wide(l_starts[k + 1]);
-    if from < end {
-        return l_rows[from];
+    if from < wide(l_starts[k + 1]) {
+        return Some(l_rows[from]);
     }
-    NONE
+    None
 }
 
 // The parent of k is its first row, or none.
@@ -418,21 +383,19 @@ pub fn parent_ok(parents: &[u32], l_starts: &[u32], l_rows: &[u32], k: usize) ->
     requires { (k < length parents.now) × ColumnRises l_starts.now l_rows.now k }
     ensures { result ≡ headed parents.now (rows_in l_starts.now l_rows.now) k }
 {
-    let row = first_row(l_starts, l_rows, k);
-    parents[k] == row
+    parents[k] == first_row(l_starts, l_rows, k).unwrap_or(NONE)
 }
 
-// The lowest column whose parent is not its first row; the number of blocks where there is none.
-pub fn first_off(parents: &[u32], l_starts: &[u32], l_rows: &[u32]) -> usize
+// The lowest column whose parent is not its first row, if there is one.
+pub fn first_off(parents: &[u32], l_starts: &[u32], l_rows: &[u32]) -> Option<usize>
     requires { Columns past_diagonal (length parents.now) l_starts.now l_rows.now }
-    ensures { result ≡ first (headed parents.now (rows_in l_starts.now l_rows.now)) 0 (length parents.now) }
+    ensures { result ≡ fault (headed parents.now (rows_in l_starts.now l_rows.now)) 0 (length parents.now) }
 {
-    let mut k = 0;
-    while k < parents.len() {
-        if !parent_ok(parents, l_starts, l_rows, k) {
-            return k;
-        }
-        k += 1;
-    }
-    k
+    first_fault(
+        0,
+        parents.len(),
+        |k|
+            requires { (k < length parents.now) × ColumnRises l_starts.now l_rows.now k }
+        { parent_ok(parents, l_starts, l_rows, k) },
+    )
 }

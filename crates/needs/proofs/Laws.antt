@@ -1,5 +1,5 @@
 -- The first buffer that is short decides, and where none is, each need is met. Assumes nothing.
-use Prim.Native.Nat.{ℕ, suc, ◌+◌, ◌≤◌, ◌<◌}
+use Prim.Native.Nat.{ℕ, suc, ◌+◌, ◌≤◌, ◌<◌, min}
 use mathlib.Core.Bool.{true, false, false≢true}
 use mathlib.Core.List.{List, [], ◌∷◌}
 use mathlib.Core.Path.{◌≡◌, refl, sym, ap, ◌∙◌}
@@ -40,6 +40,14 @@ module _ (have need : List ℕ) (i : ℕ) where
       none : (l : List ℕ) → verdict (need_checks (lent_from i l [])) ≡ done
       none [] = refl
       none (x ∷ l) = refl
+
+  -- one of the two has ended
+  pub rest_out : min (length have) (length need) ≤ i → rest have need i ≡ done
+  rest_out h = by-length (dec_lt i (length have))
+    where
+      by-length : Dec (i < length have) → rest have need i ≡ done
+      by-length (yes a) = rest-cut (omega arith)
+      by-length (no a) = rest_end (omega arith)
 
   module _ (h : i < length have) (n : i < length need) where
     front : rest have need i ≡ verdict (need_check i (get_or have i 0) (get_or need i 0) ∷ need_checks (lent_from (suc i) (drop (suc i) have) (drop (suc i) need)))

@@ -1,9 +1,8 @@
 -- 11 of document 01 as one list: what a call is lent and what it needs. Assumes nothing.
-use Rattle.std.specs.Prelude.{ℕ, suc, ◌≤◌, List, [], ◌∷◌}
-use Rattle.refusal.specs.Refusal.{Told, done, short_buffer}
+use Rattle.std.specs.Prelude.{ℕ, suc, ◌≤◌, List, [], ◌∷◌, Result}
+use Rattle.refusal.specs.Refusal.{Told, done, short_buffer, told_by}
 use Rattle.refusal.specs.Check.{need_check}
-use Rattle.needs.specs.declared.Room.{Room}
-use Rattle.needs.specs.declared.Room.TheVariants.{Met, Short}
+use Rattle.needs.specs.declared.ShortBuffer.{ShortBuffer}
 
 -- a buffer: which of the call's, its length, and the call's need
 pub record Lent : Type 0 where
@@ -27,7 +26,9 @@ abbrev pub AllMet : List Lent → Type 0
 AllMet [] = Unit {0}
 AllMet (b ∷ bs) = (b.need ≤ b.have) × AllMet bs
 
--- document 01's number and values for each case
-abbrev pub told : Room → Told
-told (Met w) = done
-told (Short which need) = short_buffer which need
+-- document 01's number and values
+abbrev pub told_error : ShortBuffer → Told
+told_error e = short_buffer e.which e.need
+
+abbrev pub told : Result Unit ShortBuffer → Told
+told = told_by (λ w. done) told_error

@@ -4,9 +4,8 @@
 
 use dense_ldlt::ldlt_decompose_inplace;
 use dense_solve::ldlt_solve_inplace;
+use digits::cores::{bits_of, put_hex};
 use refusal::Refusal;
-
-const DIGITS: [u8; 16] = *b"0123456789ABCDEF";
 
 fn main() {
     let infinity = 1.0 / 0.0;
@@ -43,6 +42,7 @@ fn night(a: &mut [f64; 4], d: &mut [f64; 2], x: &mut [f64; 2]) {
     line(1, x[1], d[1]);
 }
 
+// Kept: the number, which is what is printed.
 fn refuse(number: u32) {
     io::write_all(1, b"refused ");
     io::print_decimal(1, number as u64);
@@ -61,22 +61,9 @@ fn line(i: u64, x: f64, d: f64) {
     }
 }
 
-// The bits of x; of every NaN those of document 01's.
-fn bits_of(x: f64) -> u64 {
-    if x == x {
-        f64::to_bits(x)
-    } else {
-        0x7ff8_0000_0000_0000
-    }
-}
-
 // Sixteen upper-case hexadecimal digits.
 fn print_bits(bits: u64) {
     let mut text = [0u8; 16];
-    let mut rest = bits;
-    for k in 0..16 {
-        text[15 - k] = DIGITS[(rest % 16) as usize];
-        rest = rest / 16;
-    }
+    put_hex(&mut text, 0, bits);
     io::write_all(1, &text);
 }

@@ -4,13 +4,13 @@ use mathlib.Core.Bool.{false≢true}
 use mathlib.Core.Path.{refl, sym, ap, subst, ◌∙◌}
 use lib.ListN.{take-append-drop}
 use lib.Seq.{length-take-le}
-use Rattle.std.specs.Result.{IsErr, IsErrAnd, MatchResult, is_ok}
+use Rattle.std.specs.Result.{IsErr, IsErrAnd}
 use Rattle.graph.specs.Tree.{Parent}
 use Rattle.refusal.specs.Refusal.{Told, done, refuses, verdict, verdict_after, after}
 use Rattle.refusal.proofs.Laws.{stays-refused, first-refuses}
 use Rattle.needs.specs.Needs.{need_checks, AllMet}
 use Rattle.tables.specs.Verdict.{plan_verdict}
-use Rattle.checks.specs.Outcome.{told_plan, told_plan_error}
+use Rattle.checks.specs.Outcome.{told_plan_error}
 use Rattle.checks.specs.declared.PlanTablesError.{PlanTablesError}
 use Rattle.elimination_tree.specs.Tree.{decode, parents_of}
 use Rattle.analysis.specs.Plan.{starts_of}
@@ -61,16 +61,12 @@ error-refuses (Late place) = refl
 error-refuses (Short which need) = refl
 
 -- the tables are refused, and so is the call, in the same words
-pub tables_refused : (a : Night) (b : Places) (s : Result Unit PlanTablesError) (m : Result Unit PlanError) (e : PlanError) (r : Result Counts PlanError) →
-    MatchResult s (λ w. m ≡ Ok w) (λ t. IsErrAnd m (λ f. told_error f ≡ told_plan_error t)) → m ≡ Err e → IsErr r × IsErrAnd r (λ f. f ≡ e) →
-    told_plan s ≡ plan_verdict a.dims a.starts a.rows a.perm a.late → Plans (early a b) a b r b
+pub tables_refused : (a : Night) (b : Places) (u : PlanTablesError) (r : Result Counts PlanError) → IsErr r × IsErrAnd r (λ f. told_error f ≡ told_plan_error u) →
+    told_plan_error u ≡ plan_verdict a.dims a.starts a.rows a.perm a.late → Plans (early a b) a b r b
 unfolding early
-tables_refused a b s m e (Ok x) q is p t = absurd (false≢true p.0)
-tables_refused a b (Ok w) m e (Err r) q is p t = absurd (false≢true (ap is_ok (sym is ∙ q)))
-tables_refused a b (Err u) (Ok w) e (Err r) q is p t = absurd q
-tables_refused a b (Err u) (Err f) e (Err r) q is p t =
-    let handed : r ≡ f = cc (p.1) in
-    let same : told_error r ≡ plan_verdict a.dims a.starts a.rows a.perm a.late = ap told_error handed ∙ q ∙ t in
+tables_refused a b u (Ok x) p t = absurd (false≢true p.0)
+tables_refused a b u (Err r) p t =
+    let same : told_error r ≡ plan_verdict a.dims a.starts a.rows a.perm a.late = p.1 ∙ t in
     let checks = need_checks (first_list a b) in
     let stops : refuses (told_error r) ≡ true = error-refuses r in
     let stays : early a b ≡ told_error r = ap (λ (t : Told). verdict_after t checks) (sym same) ∙ stays-refused (told_error r) checks stops in
@@ -83,12 +79,7 @@ needs-refused a b v e (Err r) p t =
     let same : told_error r ≡ v = ap told_error p.1 ∙ t in
     refused v a b (Err r) same (ap refuses (sym same) ∙ error-refuses r)
 
--- the tables pass
-pub tables_pass : (s : Result Unit PlanTablesError) (v : Told) → told_plan s ≡ v → true ≡ is_ok s → done ≡ v
-tables_pass (Ok w) v t e = t
-tables_pass (Err u) v t e = absurd (false≢true (sym e))
-
--- they do, and the needs decide
+-- the tables pass, and the needs decide
 pub tables-passed : (a : Night) (b : Places) (r : Result Counts PlanError) (b' : Places) → done ≡ plan_verdict a.dims a.starts a.rows a.perm a.late → Plans (verdict (need_checks (first_list a b))) a b r b' → Plans (early a b) a b r b'
 unfolding early
 tables-passed a b r b' e p = subst (λ (t : Told). Plans (verdict_after t (need_checks (first_list a b))) a b r b') e p

@@ -6,73 +6,35 @@ ghost use Rattle.std.specs.Prelude.{◌≡◌, ◌≤◌, OnOk};
 ghost use Rattle.refusal.specs.Refusal.{done, told_by, verdict};
 ghost use Rattle.needs.specs.Needs.{need_checks, lent_from, AllMet};
 ghost use Rattle.tables.specs.Sound.{PlanSound};
-ghost use Rattle.checks.specs.Outcome.{told_plan_error};
-ghost use Rattle.plan_core.specs.Plan.{told_error, night, places, Plans, first_needs, first_list, early};
+ghost use Rattle.plan_core.specs.Plan.{told_error, handed, lent_of, places, Plans, Exact, SameOutputs, SameScratch, first_needs, first_list, early};
 
 pub use analysis::cores::Counts;
-use checks::{PlanTablesError, check_plan};
-use needs::{Room, first_short};
-pub use plan_core::PlanError;
+use checks::check_plan;
+use needs::first_short;
 use plan_core::cores::planned_core;
+pub use plan_core::{Night, Outputs, PlanError, Scratch};
 
 // The plan of n = dims.len() blocks with m = rows.len() stored. Outputs: `order`, the permutation after the late move (n);
 // `parents`, the elimination tree (n; none is 4,294,967,295); `l_starts` (n + 1) and `l_rows` (L's blocks), the rows of L below the
 // diagonal, column after column, ascending. Scratch, zeros afterwards: `inverse`, `sizes`, `count`, `stamps` (n each), `heads`, `into`
 // (n + 1 each), `table`, `upper` (m each). Where only `l_rows` is too short, the outputs are unchanged and scratch is zeros too; after
 // any other refusal nothing is changed. Accepted, L's blocks below the diagonal, L's numbers, and the block products that make it.
-// Kept: slices and no struct of them: a part of each is handed on, so each call would take the struct apart and make another.
-pub fn plan(
-    dims: &[u32],
-    starts: &[u32],
-    rows: &[u32],
-    perm: &[u32],
-    late: &[u32],
-    order: &mut [u32],
-    parents: &mut [u32],
-    l_starts: &mut [u32],
-    l_rows: &mut [u32],
-    inverse: &mut [u32],
-    sizes: &mut [u32],
-    count: &mut [u32],
-    heads: &mut [u32],
-    into: &mut [u32],
-    stamps: &mut [u32],
-    table: &mut [u32],
-    upper: &mut [u32],
-) -> Result<Counts, PlanError>
-    ensures { Plans (early (night dims.now starts.now rows.now perm.now late.now) (places order.old parents.old l_starts.old l_rows.old inverse.old sizes.old count.old heads.old into.old stamps.old table.old upper.old)) (night dims.now starts.now rows.now perm.now late.now) (places order.old parents.old l_starts.old l_rows.old inverse.old sizes.old count.old heads.old into.old stamps.old table.old upper.old) result (places order.new parents.new l_starts.new l_rows.new inverse.new sizes.new count.new heads.new into.new stamps.new table.new upper.new) }
+pub fn plan(a: &Night, o: &mut Outputs, w: &mut Scratch) -> Result<Counts, PlanError>
+    ensures plans { Plans (early (handed a.now) (lent_of o.old w.old)) (handed a.now) (lent_of o.old w.old) result (lent_of o.new w.new) }
+    ensures outputs { SameOutputs o.old o.new }
+    ensures scratch { SameScratch w.old w.new }
 {
-    check_plan(dims, starts, rows, perm, late).map_err(of_tables)?;
+    check_plan(a.dims, a.starts, a.rows, a.perm, a.late)?;
     lent_core(
-        dims, starts, rows, perm, late, order, parents, l_starts, l_rows, inverse, sizes, count,
-        heads, into, stamps, table, upper,
+        a, o.order, o.parents, o.l_starts, o.l_rows, w.inverse, w.sizes, w.count, w.heads, w.into,
+        w.stamps, w.table, w.upper,
     )
 }
 
-// A refusal of the tables, as the plan's own.
-// Kept: no `From`, which would stand in plan_core, where the error is: its text names nothing of `checks`.
-fn of_tables(e: PlanTablesError) -> PlanError
-    ensures { told_error result ≡ told_plan_error e }
-{
-    match e {
-        PlanTablesError::Blocks => PlanError::Blocks,
-        PlanTablesError::Dimension { place } => PlanError::Dimension { place },
-        PlanTablesError::Starts { place } => PlanError::Starts { place },
-        PlanTablesError::Stored => PlanError::Stored,
-        PlanTablesError::Row { place } => PlanError::Row { place },
-        PlanTablesError::Order { place } => PlanError::Order { place },
-        PlanTablesError::Permutation { place } => PlanError::Permutation { place },
-        PlanTablesError::Late { place } => PlanError::Late { place },
-    }
-}
-
 // The plan of tables that have passed: the buffers' needs, then the work in the first places of each.
+// Kept: what is lent buffer by buffer, since each is cut.
 fn lent_core(
-    dims: &[u32],
-    starts: &[u32],
-    rows: &[u32],
-    perm: &[u32],
-    late: &[u32],
+    a: &Night,
     order: &mut [u32],
     parents: &mut [u32],
     l_starts: &mut [u32],
@@ -86,11 +48,11 @@ fn lent_core(
     table: &mut [u32],
     upper: &mut [u32],
 ) -> Result<Counts, PlanError>
-    requires { PlanSound dims.now starts.now rows.now perm.now late.now }
-    ensures { Plans (verdict (need_checks (first_list (night dims.now starts.now rows.now perm.now late.now) (places order.old parents.old l_starts.old l_rows.old inverse.old sizes.old count.old heads.old into.old stamps.old table.old upper.old)))) (night dims.now starts.now rows.now perm.now late.now) (places order.old parents.old l_starts.old l_rows.old inverse.old sizes.old count.old heads.old into.old stamps.old table.old upper.old) result (places order.new parents.new l_starts.new l_rows.new inverse.new sizes.new count.new heads.new into.new stamps.new table.new upper.new) }
+    requires { PlanSound a.now.dims.now a.now.starts.now a.now.rows.now a.now.perm.now a.now.late.now }
+    ensures { Plans (verdict (need_checks (first_list (handed a.now) (places order.old parents.old l_starts.old l_rows.old inverse.old sizes.old count.old heads.old into.old stamps.old table.old upper.old)))) (handed a.now) (places order.old parents.old l_starts.old l_rows.old inverse.old sizes.old count.old heads.old into.old stamps.old table.old upper.old) result (places order.new parents.new l_starts.new l_rows.new inverse.new sizes.new count.new heads.new into.new stamps.new table.new upper.new) }
 {
-    let n = dims.len();
-    let m = rows.len();
+    let n = a.dims.len();
+    let m = a.rows.len();
     room(
         n,
         m,
@@ -109,12 +71,8 @@ fn lent_core(
             upper.len(),
         ],
     )?;
-    planned_core(
-        dims,
-        starts,
-        rows,
-        perm,
-        late,
+    exact_core(
+        a,
         &mut order[..n],
         &mut parents[..n],
         &mut l_starts[..n + 1],
@@ -130,14 +88,52 @@ fn lent_core(
     )
 }
 
+// The plan in buffers that each have exactly their need, L's row table apart.
+// Kept: what is lent buffer by buffer, since it is cut from longer buffers: of a cut that goes into a struct nothing is known afterwards.
+fn exact_core(
+    a: &Night,
+    order: &mut [u32],
+    parents: &mut [u32],
+    l_starts: &mut [u32],
+    l_rows: &mut [u32],
+    inverse: &mut [u32],
+    sizes: &mut [u32],
+    count: &mut [u32],
+    heads: &mut [u32],
+    into: &mut [u32],
+    stamps: &mut [u32],
+    table: &mut [u32],
+    upper: &mut [u32],
+) -> Result<Counts, PlanError>
+    requires plan_sound { PlanSound a.now.dims.now a.now.starts.now a.now.rows.now a.now.perm.now a.now.late.now }
+    requires exact { Exact (handed a.now) (places order.old parents.old l_starts.old l_rows.old inverse.old sizes.old count.old heads.old into.old stamps.old table.old upper.old) }
+    ensures { Plans done (handed a.now) (places order.old parents.old l_starts.old l_rows.old inverse.old sizes.old count.old heads.old into.old stamps.old table.old upper.old) result (places order.new parents.new l_starts.new l_rows.new inverse.new sizes.new count.new heads.new into.new stamps.new table.new upper.new) }
+{
+    let mut o = Outputs {
+        order,
+        parents,
+        l_starts,
+        l_rows,
+    };
+    let mut w = Scratch {
+        inverse,
+        sizes,
+        count,
+        heads,
+        into,
+        stamps,
+        table,
+        upper,
+    };
+    planned_core(a, &mut o, &mut w)
+}
+
 // The needs that are known without the plan, of n blocks and m stored: of L's row table nothing.
 fn room(n: usize, m: usize, have: &[usize]) -> Result<(), PlanError>
     requires { n ≤ 4096 }
     ensures says { told_by (λ w. done) told_error result ≡ verdict (need_checks (lent_from 0 have.now (first_needs n m))) }
     ensures met { OnOk result (AllMet (lent_from 0 have.now (first_needs n m))) }
 {
-    match first_short(have, &[n, n, n + 1, 0, n, n, n, n + 1, n + 1, n, m, m]) {
-        Room::Met(_) => Ok(()),
-        Room::Short { which, need } => Err(PlanError::Short { which, need }),
-    }
+    first_short(have, &[n, n, n + 1, 0, n, n, n, n + 1, n + 1, n, m, m])?;
+    Ok(())
 }

@@ -9,12 +9,13 @@ ghost use Rattle.plan_core.specs.Plan.{night, places};
 ghost use Rattle.plan_core.specs.Plan as plan;
 ghost use Rattle.plan_abi.specs.Number.{Exports};
 
-use plan::{Counts, PlanError};
+use plan::{Counts, Night, Outputs, PlanError, Scratch};
 use refusal::number_of;
 use report::carry;
 
 // The plan: `plan::plan`. Accepted, `told` has L's blocks, L's numbers and the products; refused, the place, or the buffer and its
 // need, and zeros after.
+// Kept: the places one by one, as the C interface hands them in.
 #[unsafe(no_mangle)]
 pub extern "C" fn beyqaloosh_plan(
     dims: &[u32],
@@ -38,10 +39,30 @@ pub extern "C" fn beyqaloosh_plan(
 ) -> u32
     ensures { Exports (night dims.now starts.now rows.now perm.now late.now) (places order.old parents.old l_starts.old l_rows.old inverse.old sizes.old count.old heads.old into.old stamps.old table.old upper.old) result told.new (places order.new parents.new l_starts.new l_rows.new inverse.new sizes.new count.new heads.new into.new stamps.new table.new upper.new) }
 {
-    let p = plan::plan(
-        dims, starts, rows, perm, late, order, parents, l_starts, l_rows, inverse, sizes, count,
-        heads, into, stamps, table, upper,
-    );
+    let a = Night {
+        dims,
+        starts,
+        rows,
+        perm,
+        late,
+    };
+    let mut o = Outputs {
+        order,
+        parents,
+        l_starts,
+        l_rows,
+    };
+    let mut w = Scratch {
+        inverse,
+        sizes,
+        count,
+        heads,
+        into,
+        stamps,
+        table,
+        upper,
+    };
+    let p = plan::plan(&a, &mut o, &mut w);
     tell(p, told)
 }
 

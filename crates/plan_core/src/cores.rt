@@ -2,48 +2,47 @@
 ghost use Rattle.std.specs.Prelude.{◌≡◌, ◌+◌, length, replicate};
 ghost use Rattle.refusal.specs.Refusal.{done};
 ghost use Rattle.tables.specs.Sound.{PlanSound};
-ghost use Rattle.plan_core.specs.Plan.{night, places, Plans, Exact};
+ghost use Rattle.plan_core.specs.Plan.{handed, lent_of, Plans, Exact, SameOutputs, SameScratch};
 
-use crate::PlanError;
-use analysis::cores::Counts;
+use crate::{Night, Outputs, PlanError, Scratch};
+use analysis::cores::{Counts, analyze, store};
 use scratch::cores::clear_plan;
 
 // The tree and the counts in scratch, then the need of L's row table, then the outputs. Accepted, L's blocks below the diagonal, L's
 // numbers, and the block products that make it.
-pub fn planned_core(
-    dims: &[u32],
-    starts: &[u32],
-    rows: &[u32],
-    perm: &[u32],
-    late: &[u32],
-    order: &mut [u32],
-    parents: &mut [u32],
-    l_starts: &mut [u32],
-    l_rows: &mut [u32],
-    inverse: &mut [u32],
-    sizes: &mut [u32],
-    count: &mut [u32],
-    heads: &mut [u32],
-    into: &mut [u32],
-    stamps: &mut [u32],
-    table: &mut [u32],
-    upper: &mut [u32],
-) -> Result<Counts, PlanError>
-    requires plan_sound { PlanSound dims.now starts.now rows.now perm.now late.now }
-    requires exact { Exact (night dims.now starts.now rows.now perm.now late.now) (places order.old parents.old l_starts.old l_rows.old inverse.old sizes.old count.old heads.old into.old stamps.old table.old upper.old) }
-    ensures { Plans done (night dims.now starts.now rows.now perm.now late.now) (places order.old parents.old l_starts.old l_rows.old inverse.old sizes.old count.old heads.old into.old stamps.old table.old upper.old) result (places order.new parents.new l_starts.new l_rows.new inverse.new sizes.new count.new heads.new into.new stamps.new table.new upper.new) }
+pub fn planned_core(a: &Night, o: &mut Outputs, w: &mut Scratch) -> Result<Counts, PlanError>
+    requires plan_sound { PlanSound a.now.dims.now a.now.starts.now a.now.rows.now a.now.perm.now a.now.late.now }
+    requires exact { Exact (handed a.now) (lent_of o.old w.old) }
+    ensures plans { Plans done (handed a.now) (lent_of o.old w.old) result (lent_of o.new w.new) }
+    ensures outputs { SameOutputs o.old o.new }
+    ensures scratch { SameScratch w.old w.new }
 {
-    let n = dims.len();
-    let found = analysis::cores::analyze(
-        dims, starts, rows, perm, late, inverse, sizes, count, heads, into, stamps, table, upper,
+    let n = a.dims.len();
+    let found = analyze(
+        a.dims, a.starts, a.rows, a.perm, a.late, w.inverse, w.sizes, w.count, w.heads, w.into,
+        w.stamps, w.table, w.upper,
     );
     let counts = found.counts;
     let need = counts.stored;
-    if l_rows.len() < need {
-        clear_plan(inverse, sizes, count, heads, into, stamps, table, upper);
+    if o.l_rows.len() < need {
+        clear_plan(
+            w.inverse, w.sizes, w.count, w.heads, w.into, w.stamps, w.table, w.upper,
+        );
         return Err(PlanError::Short { which: 3, need });
     }
-    analysis::cores::store(
+    let order = &mut *o.order;
+    let parents = &mut *o.parents;
+    let l_starts = &mut *o.l_starts;
+    let l_rows = &mut *o.l_rows;
+    let inverse = &mut *w.inverse;
+    let sizes = &mut *w.sizes;
+    let count = &mut *w.count;
+    let heads = &mut *w.heads;
+    let into = &mut *w.into;
+    let stamps = &mut *w.stamps;
+    let table = &mut *w.table;
+    let upper = &mut *w.upper;
+    store(
         into,
         &upper[..found.entries],
         &heads[..n],
@@ -53,7 +52,7 @@ pub fn planned_core(
         l_starts,
         &mut l_rows[..need],
     );
-    order::cores::move_late(perm, late, order);
+    order::cores::move_late(a.perm, a.late, order);
     buckets::cores::copy(heads, parents);
     clear_plan(inverse, sizes, count, heads, into, stamps, table, upper);
     Ok(counts)

@@ -3,9 +3,50 @@
 
 pub mod cores;
 
+ghost use Rattle.std.specs.Prelude.{◌≡◌};
+ghost use Rattle.checks.specs.Outcome.{told_plan_error};
+ghost use Rattle.needs.specs.Needs.{told_error as told_short};
 ghost use Rattle.plan_core.specs.Plan.{told_error};
 
+use checks::PlanTablesError;
+use needs::ShortBuffer;
 use refusal::Refusal;
+
+// What a plan is handed.
+#[derive(Clone, Copy, Drop)]
+pub struct Night<'a> {
+    // The dimension of each block.
+    pub dims: &'a [u32],
+    // A's pattern from the diagonal down, column after column: where each column begins, and the row of each block.
+    pub starts: &'a [u32],
+    pub rows: &'a [u32],
+    // The old number of each new one.
+    pub perm: &'a [u32],
+    // A flag 0 or 1 for each block.
+    pub late: &'a [u32],
+}
+
+// The outputs of a plan.
+#[derive(Drop)]
+pub struct Outputs<'a> {
+    pub order: &'a mut [u32],
+    pub parents: &'a mut [u32],
+    pub l_starts: &'a mut [u32],
+    pub l_rows: &'a mut [u32],
+}
+
+// What a plan is lent to work in.
+#[derive(Drop)]
+pub struct Scratch<'a> {
+    pub inverse: &'a mut [u32],
+    pub sizes: &'a mut [u32],
+    pub count: &'a mut [u32],
+    pub heads: &'a mut [u32],
+    pub into: &'a mut [u32],
+    pub stamps: &'a mut [u32],
+    pub table: &'a mut [u32],
+    pub upper: &'a mut [u32],
+}
 
 // The refusals of `plan`.
 #[derive(Clone, Copy, Debug, PartialEq, Eq)]
@@ -44,6 +85,35 @@ impl Refusal for PlanError {
             PlanError::Permutation { place: _ } => 8,
             PlanError::Late { place: _ } => 9,
             PlanError::Short { which: _, need: _ } => 11,
+        }
+    }
+}
+
+// Tables that are refused refuse the plan in the same words.
+impl From<PlanTablesError> for PlanError {
+    ghost from_gives = { λ e r. told_error r ≡ told_plan_error e };
+
+    fn from(e: PlanTablesError) -> PlanError {
+        match e {
+            PlanTablesError::Blocks => PlanError::Blocks,
+            PlanTablesError::Dimension { place } => PlanError::Dimension { place },
+            PlanTablesError::Starts { place } => PlanError::Starts { place },
+            PlanTablesError::Stored => PlanError::Stored,
+            PlanTablesError::Row { place } => PlanError::Row { place },
+            PlanTablesError::Order { place } => PlanError::Order { place },
+            PlanTablesError::Permutation { place } => PlanError::Permutation { place },
+            PlanTablesError::Late { place } => PlanError::Late { place },
+        }
+    }
+}
+
+impl From<ShortBuffer> for PlanError {
+    ghost from_gives = { λ e r. told_error r ≡ told_short e };
+
+    fn from(e: ShortBuffer) -> PlanError {
+        PlanError::Short {
+            which: e.which,
+            need: e.need,
         }
     }
 }

@@ -2,9 +2,10 @@
 // tables from 0 on, those of the twelve lent buffers from 5 on, the answer from 17 on.
 ghost use Rattle.std.specs.Prelude.{◌≡◌, ◌≤◌, length};
 
-use crate::told::{matches, of_plan, of_system};
-use word_list::cases::{BadList, Case};
-use word_list::entry::{Entry, float};
+use crate::told::{says_plan, says_system};
+use plan::{Night, Outputs, Scratch};
+use word_list::cases::{BadList, Case, kind};
+use word_list::entry::float;
 use word_list::lent::{lent, output, scratch, table};
 use word_list::room::{BLOCKS, STORED, held};
 
@@ -13,35 +14,44 @@ const L_ROWS: usize = 131072;
 
 const VALUES: usize = 4096;
 
-// The kind of a check of a system.
-const SYSTEM: usize = 14;
+// What the cases of a kind call.
+#[derive(Clone, Copy)]
+enum Call {
+    Plan,
+    System,
+}
+
+// The last kind checks a system.
+// Kept: the list's number of a kind, which becomes the enum here.
+impl From<usize> for Call {
+    fn from(kind: usize) -> Call {
+        match kind {
+            14 => Call::System,
+            _ => Call::Plan,
+        }
+    }
+}
 
 // Reads the next case and judges it; none is the word that ends the list. A list is bad where the input ends early or a case does not fit.
 pub fn next() -> Result<Option<Case>, BadList> {
-    let Some(first) = u32::next() else {
-        return Err(BadList {});
-    };
-    let kind = first as usize;
-    if kind == 0 {
+    let Some(kind) = kind()? else {
         return Ok(None);
-    }
+    };
     let h: [u32; 26] = table(26);
-    if !fits(kind, &h) {
+    let call = Call::from(kind);
+    if !fits(call, &h) {
         return Err(BadList {});
     }
-    Ok(Some(Case::one(kind, judge(kind, &h))))
-}
-
-fn judge(kind: usize, h: &[u32; 26]) -> bool {
-    if kind == SYSTEM {
-        return system(h);
-    }
-    planned(h)
+    let is_right = match call {
+        Call::Plan => planned(&h),
+        Call::System => system(&h),
+    };
+    Ok(Some(Case::one(kind, is_right)))
 }
 
 // Whether the tables and buffers of a case have room.
-fn fits(kind: usize, h: &[u32; 26]) -> bool {
-    for k in 0..lengths(kind) {
+fn fits(call: Call, h: &[u32; 26]) -> bool {
+    for k in 0..lengths(call) {
         if h[k] as usize > room(k) {
             return false;
         }
@@ -50,10 +60,13 @@ fn fits(kind: usize, h: &[u32; 26]) -> bool {
 }
 
 // How many of the words in front are lengths.
-fn lengths(kind: usize) -> usize
+fn lengths(call: Call) -> usize
     ensures { result ≤ 17 }
 {
-    if kind == SYSTEM { 5 } else { 17 }
+    match call {
+        Call::Plan => 17,
+        Call::System => 5,
+    }
 }
 
 // The room for table or buffer k: rows, table and upper are as long as the stored blocks, l_rows as L's.
@@ -77,25 +90,18 @@ fn planned(h: &[u32; 26]) -> bool {
     let rows: [u32; 65552] = table(k2);
     let perm: [u32; 4112] = table(k3);
     let late: [u32; 4112] = table(k4);
-    lending(
-        h,
-        &dims[..k0],
-        &starts[..k1],
-        &rows[..k2],
-        &perm[..k3],
-        &late[..k4],
-    )
+    let night = Night {
+        dims: &dims[..k0],
+        starts: &starts[..k1],
+        rows: &rows[..k2],
+        perm: &perm[..k3],
+        late: &late[..k4],
+    };
+    lending(h, &night)
 }
 
 // Its buffers are marked, and each is lent as long as the list says.
-fn lending(
-    h: &[u32; 26],
-    dims: &[u32],
-    starts: &[u32],
-    rows: &[u32],
-    perm: &[u32],
-    late: &[u32],
-) -> bool {
+fn lending(h: &[u32; 26], a: &Night) -> bool {
     let k5 = held(h[5], BLOCKS);
     let k6 = held(h[6], BLOCKS);
     let k7 = held(h[7], BLOCKS);
@@ -120,26 +126,24 @@ fn lending(
     let mut stamps: [u32; 4112] = lent();
     let mut table: [u32; 65552] = lent();
     let mut upper: [u32; 65552] = lent();
-    let p = plan::plan(
-        dims,
-        starts,
-        rows,
-        perm,
-        late,
-        &mut order[..k5],
-        &mut parents[..k6],
-        &mut l_starts[..k7],
-        &mut l_rows[..k8],
-        &mut inverse[..k9],
-        &mut sizes[..k10],
-        &mut count[..k11],
-        &mut heads[..k12],
-        &mut into[..k13],
-        &mut stamps[..k14],
-        &mut table[..k15],
-        &mut upper[..k16],
-    );
-    let answered = matches(h, of_plan(p));
+    let mut o = Outputs {
+        order: &mut order[..k5],
+        parents: &mut parents[..k6],
+        l_starts: &mut l_starts[..k7],
+        l_rows: &mut l_rows[..k8],
+    };
+    let mut w = Scratch {
+        inverse: &mut inverse[..k9],
+        sizes: &mut sizes[..k10],
+        count: &mut count[..k11],
+        heads: &mut heads[..k12],
+        into: &mut into[..k13],
+        stamps: &mut stamps[..k14],
+        table: &mut table[..k15],
+        upper: &mut upper[..k16],
+    };
+    let p = plan::plan(a, &mut o, &mut w);
+    let answered = says_plan(h, &p);
     let written = outputs(h, &order, &parents, &l_starts, &l_rows);
     let clear_blocks = scratch_blocks(h, &inverse, &sizes, &count, &stamps);
     let clear_starts = scratch_starts(h, &heads, &into);
@@ -218,5 +222,5 @@ fn system(h: &[u32; 26]) -> bool {
         &late[..k4],
         tolerance,
     );
-    matches(h, of_system(s))
+    says_system(h, &s)
 }

@@ -1,18 +1,16 @@
 -- The laws of verdicts and of checks. Assumes nothing.
 use mathlib.Core.Path.{◌≡◌, refl, sym, ◌∙◌, ap}
-use mathlib.Core.Bool.{Bool, true, false, cond, ◌&&◌}
+use mathlib.Core.Bool.{Bool, true, false, cond}
 use Prim.Native.Nat.{ℕ, zero, suc, ◌*◌, ◌/◌, ◌%◌, ◌≤◌, ◌<◌}
 use native.Mathlib.Nat.{mul-mod_right, mul_comm, div-add-mod', div-eq_of_eq-mul_right}
 use native.Mathlib.Omega.{arith}
-use lib.Dec.{leb, eqb}
-use lib.Ieee.{Float}
-use borrow.Author.Tests.{leb-true, eqb-true, eqb-false, eq-eqb, ne_eqb, le-leb, lt-leb, lt-ltb, le-ltb}
-use Rattle.refusal.specs.Refusal.{Told, tells, done, bad_dimension, short_buffer, shapes_disagree, refuses, first_of, verdict_after, verdict}
-use Rattle.refusal.specs.Check.{size_check, need_check, area_check}
-use Rattle.refusal.specs.Shaped.{told, told_error, Answers}
+use lib.Dec.{eqb}
+use borrow.Author.Tests.{eqb-true, eqb-false, eq-eqb, ne_eqb, lt-ltb, le-ltb}
+use Rattle.refusal.specs.Refusal.{Told, tells, done, short_buffer, shapes_disagree, refuses, first_of, verdict_after, verdict}
+use Rattle.refusal.specs.Check.{need_check, area_check}
+use Rattle.refusal.specs.Shaped.{told_error}
 use Rattle.refusal.specs.declared.ShapeError.{ShapeError}
 use Rattle.refusal.specs.declared.ShapeError.TheVariants.{Dimension, Mismatch}
-use Rattle.std.specs.Prelude.{Result, Ok, Err}
 use mathlib.Core.List.{List, [], ◌∷◌}
 
 -- ---- verdicts
@@ -49,20 +47,11 @@ verdict-goes check checks e = ap (λ (t : Told). verdict_after t checks) e
 
 -- ---- what a check says
 
-pub size_small : (least place n : ℕ) → n < least → size_check least place n ≡ bad_dimension place
-size_small least place n h = rw (lt-leb least n h)
-
 pub need-short : (which have need : ℕ) → have < need → need_check which have need ≡ short_buffer which need
 need-short which have need h = rw (lt-ltb have need h)
 
 pub need-met : (which have need : ℕ) → need ≤ have → need_check which have need ≡ done
 need-met which have need h = rw (le-ltb have need h)
-
-pub size-large : (least place n : ℕ) → least ≤ n → 16 < n → size_check least place n ≡ bad_dimension place
-size-large least place n l h = rw (le-leb least n l, lt-leb n 16 h)
-
-pub size_fits : (least place n : ℕ) → least ≤ n → n ≤ 16 → size_check least place n ≡ done
-size_fits least place n l h = rw (le-leb least n l, le-leb n 16 h)
 
 pub area-differs : (place h w count : ℕ) → (count ≡ h * w → ⊥) → area_check place h w count ≡ shapes_disagree place
 area-differs place h w count e = rw (ne_eqb count (h * w) e)
@@ -75,15 +64,6 @@ area-fits place h w count e = rw (eq-eqb count (h * w) e)
 of_test : (b : Bool) (v : Told) → refuses v ≡ true → refuses (cond b done v) ≡ false → b ≡ true
 of_test true v r e = refl
 of_test false v r e = cc
-
-both_true : (a b : Bool) → (a && b) ≡ true → (a ≡ true) × (b ≡ true)
-both_true true b e = (refl, e)
-both_true false b e = (e, cc)
-
-pub size-passes : (least place n : ℕ) → refuses (size_check least place n) ≡ false → (least ≤ n) × (n ≤ 16)
-size-passes least place n e =
-    let tests = both_true (leb least n) (leb n 16) (of_test _ _ refl e) in
-    (leb-true least n tests.0, leb-true n 16 tests.1)
 
 pub area-passes : (place h w count : ℕ) → refuses (area_check place h w count) ≡ false → count ≡ h * w
 area-passes place h w count e = eqb-true _ _ (of_test _ _ refl e)
@@ -107,25 +87,6 @@ all-pass-after v (check ∷ checks) e =
 
 pub all_pass : (checks : List Told) → refuses (verdict checks) ≡ false → AllPass checks
 all_pass checks e = (all-pass-after done checks e).1
-
--- ---- the promise of a call on shapes whose checks answered r, which is what v says
-
-module _ (v : Told) (old new : List Float) (r : Result Unit ShapeError) (says : told r ≡ v) where
-  -- they passed
-  pub passes : (w : Unit) → r ≡ Ok w → refuses v ≡ false
-  passes w e = ap refuses (sym says ∙ ap told e)
-
-  refusing : (e : ShapeError) → refuses (told_error e) ≡ true → r ≡ Err e → refuses v ≡ true
-  refusing e t is = ap refuses (sym says ∙ ap told is) ∙ t
-
-  -- they refused: the slice is as it was
-  pub answer-refused : (e : ShapeError) → r ≡ Err e → Answers v old new (Err e) old
-  answer-refused (Dimension place) is = record { outcome = rw is at says; buffer = rw (refusing _ refl is) refl }
-  answer-refused (Mismatch place) is = record { outcome = rw is at says; buffer = rw (refusing _ refl is) refl }
-
-  -- they passed, and the slice is the new one
-  pub answer-done : (w : Unit) (now : List Float) → r ≡ Ok w → now ≡ new → Answers v old new (Ok tt) now
-  answer-done w now e n = record { outcome = rw e at says; buffer = rw (passes w e) n }
 
 -- ---- one check after the other, each by `?`: what `grind` is handed
 

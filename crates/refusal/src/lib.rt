@@ -26,10 +26,6 @@ pub fn number_of<T, E: Refusal>(answer: &Result<T, E>) -> u32
     }
 }
 
-// What an accepted call hands back beside the slices that it wrote: nothing.
-#[derive(Clone, Copy)]
-pub struct Worked {}
-
 // The refusals of a call that refuses 2 and 12 alone. Places count from 0 in the order of the call: under 2 among its sizes,
 // under 12 among its slices.
 #[derive(Clone, Copy, Debug, PartialEq, Eq)]

@@ -27,6 +27,63 @@ puts-room {at} {r} {text} {out} {out'} more p h = omega (arith, p.next, ap lengt
 pub puts-next : {at r r' : ℕ} {text out out' out'' : List ℕ} (more : List ℕ) → Puts at text out r out' → Puts r more out' r' out'' → at + length (text ++ more) ≤ length out → Puts at (text ++ more) out r' out''
 puts-next {text = text} more p q h = puts_then p q (fits_next _ _ text more h)
 
+-- no piece is written anywhere
+pub puts-nothing : (at : ℕ) (out : List ℕ) → Puts at [] out at out
+puts-nothing at out = record { next = omega arith; text' = sym (written_none at out) }
+
+-- ---- a line of six pieces: the room for each where those before it are written, and the whole
+
+module _ (at : ℕ) (out : List ℕ) (a b c d e f : List ℕ) (h : at + length (a ++ b ++ c ++ d ++ e ++ f) ≤ length out) where
+  fits5 : at + length (a ++ b ++ c ++ d ++ e) ≤ length out
+  fits5 = fits-front _ _ (a ++ b ++ c ++ d ++ e) f h
+
+  fits4 : at + length (a ++ b ++ c ++ d) ≤ length out
+  fits4 = fits-front _ _ (a ++ b ++ c ++ d) e fits5
+
+  fits3 : at + length (a ++ b ++ c) ≤ length out
+  fits3 = fits-front _ _ (a ++ b ++ c) d fits4
+
+  fits2 : at + length (a ++ b) ≤ length out
+  fits2 = fits-front _ _ (a ++ b) c fits3
+
+  pub room-1 : at + length a ≤ length out
+  room-1 = fits-front _ _ a b fits2
+
+  module _ {r1 : ℕ} {out1 : List ℕ} (p1 : Puts at a out r1 out1) where
+    pub room-2 : r1 + length b ≤ length out1
+    room-2 = puts-room b p1 (fits_next _ _ a b fits2)
+
+    module _ {r2 : ℕ} {out2 : List ℕ} (p2 : Puts r1 b out1 r2 out2) where
+      two : Puts at (a ++ b) out r2 out2
+      two = puts-next b p1 p2 fits2
+
+      pub room-3 : r2 + length c ≤ length out2
+      room-3 = puts-room c two (fits_next _ _ (a ++ b) c fits3)
+
+      module _ {r3 : ℕ} {out3 : List ℕ} (p3 : Puts r2 c out2 r3 out3) where
+        three : Puts at (a ++ b ++ c) out r3 out3
+        three = puts-next c two p3 fits3
+
+        pub room-4 : r3 + length d ≤ length out3
+        room-4 = puts-room d three (fits_next _ _ (a ++ b ++ c) d fits4)
+
+        module _ {r4 : ℕ} {out4 : List ℕ} (p4 : Puts r3 d out3 r4 out4) where
+          four : Puts at (a ++ b ++ c ++ d) out r4 out4
+          four = puts-next d three p4 fits4
+
+          pub room-5 : r4 + length e ≤ length out4
+          room-5 = puts-room e four (fits_next _ _ (a ++ b ++ c ++ d) e fits5)
+
+          module _ {r5 : ℕ} {out5 : List ℕ} (p5 : Puts r4 e out4 r5 out5) where
+            five : Puts at (a ++ b ++ c ++ d ++ e) out r5 out5
+            five = puts-next e four p5 fits5
+
+            pub room-6 : r5 + length f ≤ length out5
+            room-6 = puts-room f five (fits_next _ _ (a ++ b ++ c ++ d ++ e) f h)
+
+            pub whole-line : {r6 : ℕ} {out6 : List ℕ} (p6 : Puts r5 f out5 r6 out6) → Puts at (a ++ b ++ c ++ d ++ e ++ f) out r6 out6
+            whole-line p6 = puts-next f five p6 h
+
 -- ---- how long the lines are
 
 length-decimal : (n : ℕ) → length (decimal n) ≡ places n
@@ -71,7 +128,7 @@ module _ (x : List Float) (marks : List ℕ) where
   -- before the first line
   pub puts_none : (at : ℕ) (out : List ℕ) → Puts at (lines x marks 0) out at out
   unfolding lines
-  puts_none at out = record { next = omega arith; text' = sym (written_none at out) }
+  puts_none at out = puts-nothing at out
 
   -- one more
   pub lines_next : (k : ℕ) → lines x marks (k + 1) ≡ lines x marks k ++ scalar_line k (get_or x k nan) (get_or marks k 0)

@@ -1,22 +1,27 @@
 -- The outcome of a rendering, and its promise. Assumes nothing.
-use Rattle.std.specs.Prelude.{◌≡◌, ℕ, cond, List, [], ◌∷◌, ◌++◌, length, drop, ◌==◌, nat_le}
+use Rattle.std.specs.Prelude.{◌≡◌, ℕ, cond, List, [], ◌∷◌, ◌++◌, length, drop, ◌==◌, nat_le, Result}
 use Rattle.std.specs.Prelude.{Float}
-use Rattle.refusal.specs.Refusal.{Told, accepted, done, verdict, first_of, after, short_buffer, shapes_disagree}
+use Rattle.refusal.specs.Refusal.{Told, told_by, accepted, done, verdict, first_of, after, short_buffer, shapes_disagree}
 use Rattle.refusal.specs.Check.{need_check}
-use Rattle.render.specs.declared.Line.{Line}
-use Rattle.render.specs.declared.Line.TheVariants as line
-use Rattle.render.specs.declared.Rendered.{Rendered}
-use Rattle.render.specs.declared.Rendered.TheVariants.{Accepted, Short, Mismatch}
+use Rattle.render.specs.declared.Text.{Text}
+use Rattle.render.specs.declared.ShortText.{ShortText}
+use Rattle.render.specs.declared.AnswerError.{AnswerError}
+use Rattle.render.specs.declared.AnswerError.TheVariants.{Short, Mismatch}
 
--- document 01's number and values for each case of a text, and of an answer; accepted, it hands back how many bytes were written
-abbrev pub told_line : Line → Told
-told_line (line.Accepted w) = accepted (w.bytes ∷ []) []
-told_line (line.Short need) = short_buffer 0 need
+-- document 01's number and values for each refusal of a text, and of an answer
+abbrev pub told_short : ShortText → Told
+told_short e = short_buffer 0 e.need
 
-abbrev pub told : Rendered → Told
-told (Accepted w) = accepted (w.bytes ∷ []) []
-told (Short need) = short_buffer 0 need
-told (Mismatch place) = shapes_disagree place
+abbrev pub told_error : AnswerError → Told
+told_error (Short need) = short_buffer 0 need
+told_error (Mismatch place) = shapes_disagree place
+
+-- accepted, each hands back how many bytes were written
+abbrev pub told_line : Result Text ShortText → Told
+told_line = told_by (λ w. accepted (w.bytes ∷ []) []) told_short
+
+abbrev pub told : Result Text AnswerError → Told
+told = told_by (λ w. accepted (w.bytes ∷ []) []) told_error
 
 -- 12: at most 65,536 solutions, more than which no night has, and as many marks. 11, whose need only the text shows, is tested after it
 abbrev pub shape_checks : (x : List Float) → (marks : List ℕ) → List Told

@@ -16,6 +16,7 @@ pub fn field(out: &mut [u8], at: usize, label: &[u8], n: u64) -> usize
 }
 
 // A refusal's line.
+// Kept: the number, which is what is printed.
 pub fn refused_line(out: &mut [u8], at: usize, number: u64) -> usize
     requires { at + length (refused_line number) ≤ length out.old }
     ensures { Puts at (refused_line number) out.old result out.new }

@@ -5,10 +5,11 @@ pub mod cores;
 
 ghost use Rattle.std.specs.Prelude.{length};
 ghost use Rattle.render.specs.Lines.{refused_line, answer_text};
-ghost use Rattle.render.specs.Rendered.{told, told_line, Renders, text_verdict, answer_verdict};
+ghost use Rattle.render.specs.Rendered.{told, told_error, told_line, told_short, Renders, text_verdict, answer_verdict};
 
 use crate::cores::{first_length, first_line, lines_length, put_lines, refused_line};
 use digits::cores::places;
+use refusal::Refusal;
 
 // How many bytes were written.
 #[derive(Clone, Copy)]
@@ -16,34 +17,51 @@ pub struct Text {
     pub bytes: usize,
 }
 
-// The outcome of rendering a text: a line, or all that is printed for a sheet.
-#[derive(Clone, Copy)]
-pub enum Line {
-    Accepted(Text),
-    // 11: the buffer's need.
-    Short { need: usize },
+// 11: the buffer's need.
+#[derive(Clone, Copy, Debug, PartialEq, Eq)]
+pub struct ShortText {
+    pub need: usize,
 }
 
-// The outcome of rendering an answer.
-#[derive(Clone, Copy)]
-pub enum Rendered {
-    Accepted(Text),
+impl Refusal for ShortText {
+    ghost told = { told_short };
+
+    fn number(&self) -> u32 {
+        11
+    }
+}
+
+// The refusals of an answer.
+#[derive(Clone, Copy, Debug, PartialEq, Eq)]
+pub enum AnswerError {
     // 11: the buffer's need.
     Short { need: usize },
     // 12: 0 the solutions, 1 the marks.
     Mismatch { place: usize },
 }
 
+impl Refusal for AnswerError {
+    ghost told = { told_error };
+
+    fn number(&self) -> u32 {
+        match self {
+            AnswerError::Short { need: _ } => 11,
+            AnswerError::Mismatch { place: _ } => 12,
+        }
+    }
+}
+
 // A refusal's line, from the first place on.
-pub fn refused(number: u64, out: &mut [u8]) -> Line
+// Kept: the number, which is what is printed.
+pub fn refused(number: u64, out: &mut [u8]) -> Result<Text, ShortText>
     ensures { Renders (text_verdict (refused_line number) out.old) (refused_line number) out.old (told_line result) out.new }
 {
     let need = places(number) + 9;
     if out.len() < need {
-        return Line::Short { need };
+        return Err(ShortText { need });
     }
     let bytes = refused_line(out, 0, number);
-    Line::Accepted(Text { bytes })
+    Ok(Text { bytes })
 }
 
 // An accepted answer, from the first place on: the first line, then a line for each scalar of the solution x, with its mark: 0 is
@@ -56,21 +74,21 @@ pub fn answer(
     x: &[f64],
     marks: &[u8],
     out: &mut [u8],
-) -> Rendered
+) -> Result<Text, AnswerError>
     ensures { Renders (answer_verdict x.now marks.now (answer_text blocks stored products silent x.now marks.now) out.old) (answer_text blocks stored products silent x.now marks.now) out.old (told result) out.new }
 {
     if x.len() > 65536 {
-        return Rendered::Mismatch { place: 0 };
+        return Err(AnswerError::Mismatch { place: 0 });
     }
     if marks.len() != x.len() {
-        return Rendered::Mismatch { place: 1 };
+        return Err(AnswerError::Mismatch { place: 1 });
     }
     let scalars = x.len() as u64;
     let need = first_length(blocks, scalars, stored, products, silent) + lines_length(x, marks);
     if out.len() < need {
-        return Rendered::Short { need };
+        return Err(AnswerError::Short { need });
     }
     let next = first_line(out, 0, blocks, scalars, stored, products, silent);
     let bytes = put_lines(out, next, x, marks);
-    Rendered::Accepted(Text { bytes })
+    Ok(Text { bytes })
 }

@@ -33,6 +33,7 @@ pub fn on(at: usize, by: usize) -> usize
 }
 
 // Whether two floats are the same, sign of zero and all. Two NaNs are.
+// Kept: `==` of floats takes the two zeros for one, and no NaN for another.
 pub fn same(a: f64, b: f64) -> bool
     ensures { Same a b result }
 {
@@ -55,6 +56,7 @@ pub fn fill(w: &[u8], at: usize, out: &mut [f64])
 }
 
 // Whether the floats from `at` on are those of a.
+// Kept: `same` and not `==` is asked of each.
 pub fn same_slice(w: &[u8], at: usize, a: &[f64]) -> bool
     ensures { Compared w.now at a.now result }
 {
@@ -89,11 +91,5 @@ fn two(w: &[u8], p: usize) -> u64
     requires { p + 1 < length w.now }
     ensures { (result ≡ two_at w.now p) × (result < 65536) }
 {
-    wide(w[p]) + 256 * wide(w[p + 1])
-}
-
-fn wide(x: u8) -> u64
-    ensures { (result ≡ x) × (result < 256) }
-{
-    x as u64
+    u64::from(w[p]) + 256 * u64::from(w[p + 1])
 }

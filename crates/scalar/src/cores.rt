@@ -19,6 +19,7 @@ pub fn store(m: &mut [f64], h: usize, w: usize, r: usize, c: usize, x: f64)
 }
 
 // `to` becomes `from`.
+// Kept: std's copy, with lengths as a fact of the contract, which its callers have at hand.
 pub fn copy(from: &[f64], to: &mut [f64])
     requires { length to.old ≡ length from.now }
     ensures { to.new ≡ from.now }

@@ -1,5 +1,5 @@
 -- What is told of a sheet's head, and what an outcome leaves in what is lent. Assumes nothing.
-use Rattle.std.specs.Prelude.{◌≡◌, ℕ, ◌+◌, ◌<◌, ◌≤◌, Bool, true, false, List, [], ◌∷◌, length, drop}
+use Rattle.std.specs.Prelude.{◌≡◌, ℕ, ◌+◌, ◌<◌, ◌≤◌, Bool, true, false, List, [], ◌∷◌, length, drop, Result, Ok}
 use mathlib.Core.Path.{refl, sym, ap, ap₂, ◌∙◌}
 use lib.Ieee.{Float}
 use Rattle.sheet_bytes.specs.Layout.{blocks_of, stored_of, tol_of, dims_of, late_of, perm_of, contents_at, bodies_at}
@@ -8,12 +8,12 @@ use Rattle.refusal.specs.Refusal.{Told, accepted, refuses, verdict, first_of, ba
 use Rattle.refusal.proofs.Laws.{first_passes, both-pass}
 use Rattle.tables.specs.Verdict.{areas}
 use Rattle.contents.specs.Contents.{starts_from}
-use Rattle.sheet_check.specs.Checks.{room_blocks, room_stored, night_told}
+use native.Mathlib.Omega.{arith}
+use Rattle.sheet_check.specs.Checks.{room_blocks, room_stored, room_values, room_scalars, night_told}
 use Rattle.sheet_check.specs.Sheet.{width, rows_of, columns_of, offsets_of, value_count, scalars_of, sheet_checks, sheet_verdict, starts_of, values_of, right_side_of}
 use Rattle.sheet_check.specs.Outcome.{told, sheet_told}
 use Rattle.sheet_check.specs.declared.cores.Night.{Night}
-use Rattle.sheet_check.specs.declared.cores.Sheet.{Sheet}
-use Rattle.sheet_check.specs.declared.cores.Sheet.TheVariants as sheet
+use Rattle.sheet_check.specs.declared.cores.SheetError.{SheetError}
 use Rattle.sheet_check.proofs.Laws.{told-stops, told-goes, room-stop, room_go, cut-stop, cut-go}
 use Rattle.sheet_check.proofs.Sound.{sheet-sound}
 use Rattle.sheet_unpack.specs.Unpack.{Kept, Unpacks, tables_told}
@@ -64,14 +64,14 @@ refused-by v next n r = by-case (refuses v) refl
     by-case true e = e
     by-case false e = let z : true ≡ false = sym r ∙ sym (ap refuses (first_passes v next e)) ∙ n in e ∙ sym z
 
-module _ (s : List ℕ) (r : Sheet) (e : told r ≡ sheet_told s) where
+module _ (s : List ℕ) (r : Result Night SheetError) (e : told r ≡ sheet_told s) where
   -- a refusal leaves all as it was
   pub reads-refused : refuses (told r) ≡ true → {dims late perm starts rows : List ℕ} {values right : List Float} → Reads s dims late perm starts rows values right r dims late perm starts rows values right
   reads-refused t =
       let v : refuses (sheet_verdict s) ≡ true = refused-by (sheet_verdict s) _ refl (sym (ap refuses e) ∙ t) in
       record { outcome = e; of_dims = rw v; of_late = rw v; of_perm = rw v; of_starts = rw v; of_rows = rw v; of_values = rw v; of_right = rw v }
 
-module _ (s : List ℕ) (w : Night) (e : told (sheet.Accepted w) ≡ sheet_told s) where
+module _ (s : List ℕ) (w : Night) (e : told (Ok w) ≡ sheet_told s) where
   passes : refuses (sheet_verdict s) ≡ false
   passes = (both-pass (sheet_verdict s) _ (sym (ap refuses e))).0
 
@@ -82,14 +82,21 @@ module _ (s : List ℕ) (w : Night) (e : told (sheet.Accepted w) ≡ sheet_told 
   pub kept : Kept s w
   kept = let c = counts in record { sound = sheet-sound s passes; blocks = cc; stored = cc; values = cc; scalars = cc }
 
+  -- they are within the program's room
+  pub within-room : (w.blocks ≤ room_blocks) × (w.stored ≤ room_stored) × (w.values ≤ room_values) × (w.scalars ≤ room_scalars)
+  within-room =
+      let k = kept in
+      let z = k.sound in
+      (omega (arith, k.blocks, z.blocks), omega (arith, k.stored, z.stored), omega (arith, k.values, z.values), omega (arith, k.scalars, z.scalars))
+
   -- and its tables stand in what is lent
-  pub reads_kept : {dims late perm starts rows dims' late' perm' starts' rows' : List ℕ} {values right values' right' : List Float} → Unpacks s dims late perm starts rows values right dims' late' perm' starts' rows' values' right' → Reads s dims late perm starts rows values right (sheet.Accepted w) dims' late' perm' starts' rows' values' right'
+  pub reads_kept : {dims late perm starts rows dims' late' perm' starts' rows' : List ℕ} {values right values' right' : List Float} → Unpacks s dims late perm starts rows values right dims' late' perm' starts' rows' values' right' → Reads s dims late perm starts rows values right (Ok w) dims' late' perm' starts' rows' values' right'
   reads_kept u =
       let v = passes in
       record { outcome = e; of_dims = rw v u.of_dims; of_late = rw v u.of_late; of_perm = rw v u.of_perm; of_starts = rw v u.of_starts; of_rows = rw v u.of_rows; of_values = rw v u.of_values; of_right = rw v u.of_right }
 
   -- so whoever reads the first places of what was lent finds them there
-  pub reads_hold : {dims late perm starts rows dims' late' perm' starts' rows' : List ℕ} {values right values' right' : List Float} → Reads s dims late perm starts rows values right (sheet.Accepted w) dims' late' perm' starts' rows' values' right' → Holds s w dims' late' perm' starts' rows' values' right'
+  pub reads_hold : {dims late perm starts rows dims' late' perm' starts' rows' : List ℕ} {values right values' right' : List Float} → Reads s dims late perm starts rows values right (Ok w) dims' late' perm' starts' rows' values' right' → Holds s w dims' late' perm' starts' rows' values' right'
   reads_hold r =
       let v = passes in
       let c = counts in

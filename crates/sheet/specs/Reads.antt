@@ -1,5 +1,5 @@
 -- The promise of a reading of a sheet, and what an accepted one leaves. Assumes nothing.
-use Rattle.std.specs.Prelude.{◌≡◌, ℕ, ◌+◌, List, ◌++◌, take, drop}
+use Rattle.std.specs.Prelude.{◌≡◌, ℕ, ◌+◌, List, ◌++◌, take, drop, Result}
 use Rattle.std.specs.Prelude.{Float}
 use Rattle.refusal.specs.Refusal.{after}
 use Rattle.sheet_bytes.specs.Layout.{blocks_of, stored_of, tol_of, dims_of, late_of, perm_of}
@@ -7,12 +7,12 @@ use Rattle.sheet_check.specs.Sheet.{rows_of, starts_of, value_count, scalars_of,
 use Rattle.sheet_check.specs.Outcome.{told, sheet_told}
 use Rattle.sheet_check.specs.Sound.{SheetSound}
 use Rattle.sheet_check.specs.declared.cores.Night.{Night}
-use Rattle.sheet_check.specs.declared.cores.Sheet.{Sheet}
+use Rattle.sheet_check.specs.declared.cores.SheetError.{SheetError}
 use Rattle.sheet_unpack.specs.Unpack.{Kept}
 
 -- the promise: the outcome, and each lent table afterwards. Under a refusal it is as it was; else its first places hold the sheet's,
 -- and those beyond are as they were
-pub record Reads (s : List ℕ) (dims late perm starts rows : List ℕ) (values right : List Float) (r : Sheet) (dims' late' perm' starts' rows' : List ℕ) (values' right' : List Float) : Type 0 where
+pub record Reads (s : List ℕ) (dims late perm starts rows : List ℕ) (values right : List Float) (r : Result Night SheetError) (dims' late' perm' starts' rows' : List ℕ) (values' right' : List Float) : Type 0 where
   pub outcome : told r ≡ sheet_told s
   pub of_dims : dims' ≡ after (sheet_verdict s) dims (dims_of s ++ drop (blocks_of s) dims)
   pub of_late : late' ≡ after (sheet_verdict s) late (late_of s ++ drop (blocks_of s) late)

@@ -2,33 +2,34 @@
 // hold, and the verdict, are in specs/Sheet.antt of sheet_check.
 #![tactic(auto)]
 
-ghost use Rattle.std.specs.Prelude.{◌≡◌};
+ghost use Rattle.std.specs.Prelude.{◌≡◌, ◌≤◌, IfOk};
+ghost use Rattle.sheet_check.specs.Checks.{room_blocks, room_stored, room_values, room_scalars};
 ghost use Rattle.sheet_check.specs.Outcome.{told, sheet_told};
 ghost use Rattle.sheet.specs.Reads.{Reads};
 
 use sheet_bytes::cores::u32_at;
-pub use sheet_check::cores::{Night, Sheet};
+pub use sheet_check::cores::{Night, SheetError};
 use sheet_check::cores::{ROOM_BLOCKS, ROOM_SCALARS, ROOM_STORED, ROOM_VALUES};
 use sheet_unpack::cores::{check_tables, keep};
 use tables::cores::wide;
 
 // What the bytes of a sheet say.
-pub fn check(bytes: &[u8]) -> Sheet
+pub fn check(bytes: &[u8]) -> Result<Night, SheetError>
     ensures { told result ≡ sheet_told bytes.now }
 {
     if bytes.len() < 16 {
-        return Sheet::Length;
+        return Err(SheetError::Length);
     }
     let n = wide(u32_at(bytes, 0));
     if n > ROOM_BLOCKS {
-        return Sheet::Room;
+        return Err(SheetError::Room);
     }
     let m = wide(u32_at(bytes, 4));
     if m > ROOM_STORED {
-        return Sheet::Room;
+        return Err(SheetError::Room);
     }
     if bytes.len() < 16 + 12 * n + 12 * m {
-        return Sheet::Length;
+        return Err(SheetError::Length);
     }
     check_tables(bytes, n, m)
 }
@@ -45,23 +46,11 @@ pub fn read(
     rows: &mut [u32; ROOM_STORED],
     values: &mut [f64; ROOM_VALUES],
     right: &mut [f64; ROOM_SCALARS],
-) -> Sheet
-    ensures { Reads bytes.now dims.old late.old perm.old starts.old rows.old values.old right.old result dims.new late.new perm.new starts.new rows.new values.new right.new }
+) -> Result<Night, SheetError>
+    ensures reads { Reads bytes.now dims.old late.old perm.old starts.old rows.old values.old right.old result dims.new late.new perm.new starts.new rows.new values.new right.new }
+    ensures fits { IfOk result (λ night. (night.blocks ≤ room_blocks) × (night.stored ≤ room_stored) × (night.values ≤ room_values) × (night.scalars ≤ room_scalars)) }
 {
-    let r = check(bytes);
-    match r {
-        Sheet::Accepted(night) => {
-            keep(bytes, night, dims, late, perm, starts, rows, values, right);
-            Sheet::Accepted(night)
-        }
-        Sheet::Dimension { place } => Sheet::Dimension { place },
-        Sheet::Column { place } => Sheet::Column { place },
-        Sheet::Row { place } => Sheet::Row { place },
-        Sheet::Order { place } => Sheet::Order { place },
-        Sheet::Permutation { place } => Sheet::Permutation { place },
-        Sheet::Late { place } => Sheet::Late { place },
-        Sheet::Tolerance => Sheet::Tolerance,
-        Sheet::Length => Sheet::Length,
-        Sheet::Room => Sheet::Room,
-    }
+    let night = check(bytes)?;
+    keep(bytes, night, dims, late, perm, starts, rows, values, right);
+    Ok(night)
 }

@@ -20,19 +20,12 @@ pub fn u32_at(s: &[u8], o: usize) -> u32
     byte(s[o]) + 256 * byte(s[o + 1]) + 65536 * byte(s[o + 2]) + 16777216 * byte(s[o + 3])
 }
 
-// A u32 as a u64.
-fn long(x: u32) -> u64
-    ensures { (result ≡ x) × (result < 4294967296) }
-{
-    x as u64
-}
-
 // The u64 at offset o.
 pub fn u64_at(s: &[u8], o: usize) -> u64
     requires { o + 8 ≤ length s.now }
     ensures { result ≡ u64_at s.now o }
 {
-    long(u32_at(s, o)) + 4294967296 * long(u32_at(s, o + 4))
+    u64::from(u32_at(s, o)) + 4294967296 * u64::from(u32_at(s, o + 4))
 }
 
 // The float at offset o. Every NaN's bits are the one NaN.

@@ -1,10 +1,12 @@
 // The checks of a sheet's tables once they are unpacked, in the order of the program `fit`.
 ghost use Rattle.std.specs.Prelude.{◌≡◌, ◌+◌, length};
-ghost use Rattle.sheet_check.specs.Checks.{Unpacked, Laid, Stored, room_checks, number_checks, table_checks, told_after};
-ghost use Rattle.sheet_check.specs.Outcome.{told};
+ghost use Rattle.sheet_check.specs.Checks.{Laid, Stored};
+ghost use Rattle.sheet_check.specs.Outcome.{told, told_error};
+ghost use Rattle.sheet_check.specs.Tables.{OfSheet, room_told, number_told, table_told};
 
 use columns::cores::{Least, first_fall, first_row, total_area};
 use contents::cores::{first_column, first_offset, make_starts, scalar_count};
+use refusal::Refusal;
 use scalar::is_tolerance;
 use tables::cores::{first_dim, first_late, first_perm};
 
@@ -27,10 +29,9 @@ pub struct Night {
     pub tol: f64,
 }
 
-// The outcome of a check.
-#[derive(Clone, Copy)]
-pub enum Sheet {
-    Accepted(Night),
+// The refusals of a sheet.
+#[derive(Clone, Copy, Debug, PartialEq, Eq)]
+pub enum SheetError {
     // 2: the block.
     Dimension { place: usize },
     // 3: the entry of the contents.
@@ -51,118 +52,105 @@ pub enum Sheet {
     Room,
 }
 
-// 16 for scalars, then values; 15 for the offsets, then for the end. The bodies begin at `bodies`, and the sheet has `size` bytes.
-pub fn by_room(
-    dims: &[u32],
-    late: &[u32],
-    perm: &[u32],
-    starts: &[u32],
-    rows: &[u32],
-    columns: &[u32],
-    offsets: &[u32],
-    tol: f64,
-    bodies: usize,
-    size: usize,
-) -> Sheet
-    requires { Unpacked dims.now rows.now columns.now offsets.now bodies × Stored dims.now starts.now rows.now columns.now }
-    ensures { told result ≡ told_after dims.now late.now perm.now rows.now columns.now offsets.now tol bodies size (room_checks dims.now late.now perm.now rows.now columns.now offsets.now tol bodies size) }
+impl Refusal for SheetError {
+    ghost told = { told_error };
+
+    fn number(&self) -> u32 {
+        match self {
+            SheetError::Dimension { place: _ } => 2,
+            SheetError::Column { place: _ } => 3,
+            SheetError::Row { place: _ } => 5,
+            SheetError::Order { place: _ } => 6,
+            SheetError::Permutation { place: _ } => 8,
+            SheetError::Late { place: _ } => 9,
+            SheetError::Tolerance => 10,
+            SheetError::Length => 15,
+            SheetError::Room => 16,
+        }
+    }
+}
+
+// The tables of a sheet once they are unpacked, its tolerance, where its bodies begin, and how many bytes it has.
+#[derive(Clone, Copy, Drop)]
+pub struct Tables<'a> {
+    pub dims: &'a [u32],
+    pub late: &'a [u32],
+    pub perm: &'a [u32],
+    pub rows: &'a [u32],
+    pub columns: &'a [u32],
+    pub offsets: &'a [u32],
+    pub tol: f64,
+    pub bodies: usize,
+    pub size: usize,
+}
+
+// 16 for scalars, then values; 15 for the offsets, then for the end.
+#[tactic(auto, using(crate::proofs::VerdictLaws::room_laws))]
+pub fn by_room(t: &Tables, starts: &[u32]) -> Result<Night, SheetError>
+    requires { OfSheet t.now × Stored t.now.dims.now starts.now t.now.rows.now t.now.columns.now }
+    ensures { told result ≡ room_told t.now }
 {
-    let scalars = scalar_count(dims);
+    let scalars = scalar_count(t.dims);
     if scalars > ROOM_SCALARS {
-        return Sheet::Room;
+        return Err(SheetError::Room);
     }
-    let values = total_area(dims, starts, rows);
+    let values = total_area(t.dims, starts, t.rows);
     if values > ROOM_VALUES {
-        return Sheet::Room;
+        return Err(SheetError::Room);
     }
-    let k = first_offset(dims, rows, columns, offsets, bodies);
-    if k < offsets.len() {
-        return Sheet::Length;
+    if let Some(_) = first_offset(t.dims, t.rows, t.columns, t.offsets, t.bodies) {
+        return Err(SheetError::Length);
     }
-    if size != bodies + 8 * (values + scalars) {
-        return Sheet::Length;
+    if t.size != t.bodies + 8 * (values + scalars) {
+        return Err(SheetError::Length);
     }
-    Sheet::Accepted(Night {
-        blocks: dims.len(),
-        stored: rows.len(),
+    Ok(Night {
+        blocks: t.dims.len(),
+        stored: t.rows.len(),
         values,
         scalars,
-        tol,
+        tol: t.tol,
     })
 }
 
 // 5, 6, 8, 9, 10 by number, then what `by_room` tests.
-pub fn by_number(
-    dims: &[u32],
-    late: &[u32],
-    perm: &[u32],
-    starts: &[u32],
-    rows: &[u32],
-    columns: &[u32],
-    offsets: &[u32],
-    tol: f64,
-    bodies: usize,
-    size: usize,
-) -> Sheet
-    requires { Unpacked dims.now rows.now columns.now offsets.now bodies × Laid dims.now starts.now columns.now }
-    ensures { told result ≡ told_after dims.now late.now perm.now rows.now columns.now offsets.now tol bodies size (number_checks dims.now late.now perm.now rows.now columns.now offsets.now tol bodies size) }
+#[tactic(auto, using(crate::proofs::VerdictLaws::number_laws))]
+pub fn by_number(t: &Tables, starts: &[u32]) -> Result<Night, SheetError>
+    requires { OfSheet t.now × Laid t.now.dims.now starts.now t.now.columns.now }
+    ensures { told result ≡ number_told t.now }
 {
-    let n = dims.len();
-    if let Some(place) = first_row(starts, rows, n, Least::Diagonal) {
-        return Sheet::Row { place };
+    let n = t.dims.len();
+    if let Some(place) = first_row(starts, t.rows, n, Least::Diagonal) {
+        return Err(SheetError::Row { place });
     }
-    if let Some(place) = first_fall(starts, rows, n) {
-        return Sheet::Order { place };
+    if let Some(place) = first_fall(starts, t.rows, n) {
+        return Err(SheetError::Order { place });
     }
-    if let Some(place) = first_perm(perm, n) {
-        return Sheet::Permutation { place };
+    if let Some(place) = first_perm(t.perm, n) {
+        return Err(SheetError::Permutation { place });
     }
-    if let Some(place) = first_late(late, n) {
-        return Sheet::Late { place };
+    if let Some(place) = first_late(t.late, n) {
+        return Err(SheetError::Late { place });
     }
-    if !is_tolerance(tol) {
-        return Sheet::Tolerance;
+    if !is_tolerance(t.tol) {
+        return Err(SheetError::Tolerance);
     }
-    by_room(
-        dims, late, perm, starts, rows, columns, offsets, tol, bodies, size,
-    )
+    by_room(t, starts)
 }
 
 // 2 and 3, then what `by_number` tests, with the starts worked out.
-pub fn by_table(
-    dims: &[u32],
-    late: &[u32],
-    perm: &[u32],
-    starts: &mut [u32],
-    rows: &[u32],
-    columns: &[u32],
-    offsets: &[u32],
-    tol: f64,
-    bodies: usize,
-    size: usize,
-) -> Sheet
-    requires { Unpacked dims.now rows.now columns.now offsets.now bodies × (length starts.old ≡ length dims.now + 1) }
-    ensures { told result ≡ told_after dims.now late.now perm.now rows.now columns.now offsets.now tol bodies size (table_checks dims.now late.now perm.now rows.now columns.now offsets.now tol bodies size) }
+#[tactic(auto, using(crate::proofs::VerdictLaws::table_laws))]
+pub fn by_table(t: &Tables, starts: &mut [u32]) -> Result<Night, SheetError>
+    requires { OfSheet t.now × (length starts.old ≡ length t.now.dims.now + 1) }
+    ensures { told result ≡ table_told t.now }
 {
-    let n = dims.len();
-    if let Some(place) = first_dim(dims) {
-        return Sheet::Dimension { place };
+    let n = t.dims.len();
+    if let Some(place) = first_dim(t.dims) {
+        return Err(SheetError::Dimension { place });
     }
-    let k3 = first_column(columns, n);
-    if k3 < columns.len() {
-        return Sheet::Column { place: k3 };
+    if let Some(place) = first_column(t.columns, n) {
+        return Err(SheetError::Column { place });
     }
-    make_starts(columns, n, starts);
-    by_number(
-        dims,
-        late,
-        perm,
-        &starts[..],
-        rows,
-        columns,
-        offsets,
-        tol,
-        bodies,
-        size,
-    )
+    make_starts(t.columns, n, starts);
+    by_number(t, starts)
 }

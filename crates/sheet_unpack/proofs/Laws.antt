@@ -8,7 +8,6 @@ use Rattle.sheet_bytes.specs.Layout.{blocks_of, stored_of, tol_of, dims_of, late
 use Rattle.sheet_bytes.proofs.Laws.{length-u32s}
 use Rattle.sheet_check.specs.Checks.{table_checks, told_after, Unpacked}
 use Rattle.sheet_check.specs.Sheet.{width, rows_of, columns_of, offsets_of}
-use Rattle.sheet_check.specs.declared.cores.Sheet.TheVariants as sheet
 use Rattle.sheet_unpack.specs.Unpack.{Headed, tables_told}
 
 -- the first n of a list that begins with n entries

@@ -7,7 +7,7 @@ ghost use Rattle.sheet_unpack.specs.Unpack.{Headed, Kept, Parts, Unpacks, tables
 
 use contents::cores::make_starts;
 use sheet_bytes::cores::{f64_at, fill_f64s, fill_u32s};
-use sheet_check::cores::{Night, ROOM_BLOCKS, ROOM_STORED, Sheet, by_table};
+use sheet_check::cores::{Night, ROOM_BLOCKS, ROOM_STORED, SheetError, Tables, by_table};
 
 // The dimensions, late flags and permutation of n blocks, and the rows and columns of m stored ones, into the first places of what is
 // lent.
@@ -44,31 +44,30 @@ pub fn check_in(
     rows: &mut [u32],
     columns: &mut [u32],
     offsets: &mut [u32],
-) -> Sheet
+) -> Result<Night, SheetError>
     requires { Headed bytes.now n m × (n ≤ length dims.old) × (n ≤ length late.old) × (n ≤ length perm.old) × (n + 1 ≤ length starts.old) × (m ≤ length rows.old) × (m ≤ length columns.old) × (m ≤ length offsets.old) }
     ensures { told result ≡ tables_told bytes.now }
 {
     unpack(bytes, n, m, dims, late, perm, rows, columns);
     let contents = 16 + 12 * n;
     fill_u32s(bytes, contents + 8, 12, m, offsets);
-    let tol = f64_at(bytes, 8);
-    by_table(
-        &dims[..n],
-        &late[..n],
-        &perm[..n],
-        &mut starts[..n + 1],
-        &rows[..m],
-        &columns[..m],
-        &offsets[..m],
-        tol,
-        contents + 12 * m,
-        bytes.len(),
-    )
+    let tables = Tables {
+        dims: &dims[..n],
+        late: &late[..n],
+        perm: &perm[..n],
+        rows: &rows[..m],
+        columns: &columns[..m],
+        offsets: &offsets[..m],
+        tol: f64_at(bytes, 8),
+        bodies: contents + 12 * m,
+        size: bytes.len(),
+    };
+    by_table(&tables, &mut starts[..n + 1])
 }
 
 // What the tables of n blocks and m stored ones say. They are unpacked into arrays of the program's room, so that a refusal finds
 // every lent table as it was.
-pub fn check_tables(bytes: &[u8], n: usize, m: usize) -> Sheet
+pub fn check_tables(bytes: &[u8], n: usize, m: usize) -> Result<Night, SheetError>
     requires { Headed bytes.now n m }
     ensures { told result ≡ tables_told bytes.now }
 {

@@ -4,7 +4,6 @@
 #![tactic(auto)]
 
 use fit_answer::answer;
-use render::Line;
 use sheet_bytes::cores::u32_at;
 use word_list::cases::{BadList, Case, replay};
 use word_list::tally::{Count, Tally};
@@ -58,8 +57,11 @@ fn called(n: usize, m: usize) -> Result<Case, BadList> {
     if !fill(&mut sheet, n) || !fill(&mut told, m) {
         return Err(BadList {});
     }
-    let kind = if begins(&told) { ACCEPTED } else { REFUSED };
-    Ok(Case::one(kind, answered(&sheet, n, &told, m)))
+    let (Some(sheet), Some(told)) = (sheet.get(..n), told.get(..m)) else {
+        return Err(BadList {});
+    };
+    let kind = if begins(told) { ACCEPTED } else { REFUSED };
+    Ok(Case::one(kind, answered(sheet, told)))
 }
 
 // The next n bytes of the list into the first places of a room; false where the list ends before, or the room does.
@@ -75,16 +77,12 @@ fn begins(text: &[u8]) -> bool {
     text.first() == Some(&b'b')
 }
 
-// Whether the first n bytes of the sheet are answered by the first m of what is told.
-fn answered(sheet: &[u8], n: usize, told: &[u8], m: usize) -> bool {
-    if n > sheet.len() {
-        return false;
-    }
+// Whether the sheet is answered by what is told.
+fn answered(sheet: &[u8], told: &[u8]) -> bool {
     let mut out = [0u8; 24576];
-    let r = answer(&sheet[..n], &mut out);
-    match r {
-        Line::Accepted(t) => t.bytes == m && out.get(..m) == told.get(..m),
-        Line::Short { need: _ } => false,
+    match answer(sheet, &mut out) {
+        Ok(text) => out.get(..text.bytes) == Some(told),
+        Err(_) => false,
     }
 }
 

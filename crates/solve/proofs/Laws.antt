@@ -1,5 +1,5 @@
--- What a verdict that passes gives the core (`ready`, `held`), and the answer in each case (`refused`, `answered`). Assumes nothing.
-use Rattle.std.specs.Prelude.{◌≡◌, ℕ, ◌+◌, ◌≤◌, Bool, true, false, cond, List, [], ◌∷◌, length}
+-- What a verdict that passes gives the core (`ready`, `held`), and the answer where it passes (`answered`). Assumes nothing.
+use Rattle.std.specs.Prelude.{◌≡◌, ℕ, ◌+◌, ◌≤◌, Bool, true, false, cond, List, [], ◌∷◌, length, is_ok, Result, Ok, Err}
 use mathlib.Core.Bool.{false≢true}
 use mathlib.Core.Path.{refl, sym, ap, subst, ◌∙◌}
 use lib.Ieee.{Float}
@@ -25,33 +25,32 @@ use Rattle.solve_core.specs.Core.{Solvable, SolvedBy, Cleared}
 use Rattle.solve_core.proofs.CoreLaws.{laid}
 use Rattle.solve_match.specs.Verdict.{match_verdict}
 use Rattle.solve_match.proofs.Fresh as match
-use Rattle.solve.specs.Solve.{told, lent_list, call_verdict, Call, verdict_of, columns_of, HoldsFactor, FreshFactor, Solves}
-use Rattle.solve.specs.declared.Solved.{Solved}
-use Rattle.solve.specs.declared.Solved.TheVariants as variant
+use Rattle.solve.specs.Solve.{told_error, told, lent_list, call_verdict, Call, verdict_of, columns_of, HoldsFactor, FreshFactor, Solves}
+use Rattle.solve.specs.declared.SolveError.{SolveError}
+use Rattle.solve.specs.declared.SolveError.TheVariants as variant
 
 -- ---- the parts of the verdict
 
--- an answer that does not refuse says no more
-passed : (r : Solved) → refuses (told r) ≡ false → told r ≡ done
-passed (variant.Accepted w) e = refl
-passed variant.Blocks e = cc
-passed (variant.Dimension place) e = cc
-passed (variant.Starts place) e = cc
-passed (variant.LStarts place) e = cc
-passed variant.Stored e = cc
-passed (variant.Row place) e = cc
-passed (variant.LRow place) e = cc
-passed (variant.Parent block) e = cc
-passed (variant.Order place) e = cc
-passed (variant.LOrder place) e = cc
-passed variant.LValues e = cc
-passed (variant.Permutation place) e = cc
-passed (variant.Late place) e = cc
-passed (variant.Short which need) e = cc
-passed (variant.Mismatch place) e = cc
-passed (variant.Missing column) e = cc
-passed (variant.Extra column) e = cc
-passed (variant.OtherParent column) e = cc
+-- each error is a refusal
+pub error-refuses : (e : SolveError) → refuses (told_error e) ≡ true
+error-refuses variant.Blocks = refl
+error-refuses (variant.Dimension place) = refl
+error-refuses (variant.Starts place) = refl
+error-refuses (variant.LStarts place) = refl
+error-refuses variant.Stored = refl
+error-refuses (variant.Row place) = refl
+error-refuses (variant.LRow place) = refl
+error-refuses (variant.Parent block) = refl
+error-refuses (variant.Order place) = refl
+error-refuses (variant.LOrder place) = refl
+error-refuses variant.LValues = refl
+error-refuses (variant.Permutation place) = refl
+error-refuses (variant.Late place) = refl
+error-refuses (variant.Short which need) = refl
+error-refuses (variant.Mismatch place) = refl
+error-refuses (variant.Missing column) = refl
+error-refuses (variant.Extra column) = refl
+error-refuses (variant.OtherParent column) = refl
 
 -- the first of two verdicts where the one before it refuses, and where it passes
 pub stops_first : {t v : Told} (next : Told) → t ≡ v → refuses t ≡ true → t ≡ first_of v next
@@ -133,34 +132,17 @@ module _ (a : Call) where
 
   -- ---- the answer
 
-  -- a place as it was where the verdict refuses, and new where it passes
-  as-was : {A : Type 0} (old new : A) → refuses (verdict_of a) ≡ true → old ≡ after (verdict_of a) old new
-  as-was old new e = sym (ap (λ (t : Bool). cond t old new) e)
-
+  -- a place that is new where the verdict passes
   as-new : {A : Type 0} (old new now : A) → refuses (verdict_of a) ≡ false → now ≡ new → now ≡ after (verdict_of a) old new
   as-new old new now e n = n ∙ sym (ap (λ (t : Bool). cond t old new) e)
 
-  pub refused : (r : Solved) → told r ≡ verdict_of a → refuses (told r) ≡ true → Solves a r a.x a.y a.scalar_perm a.sizes a.scalar_starts
-  refused r says stops =
-      let e : refuses (verdict_of a) ≡ true = ap refuses (sym says) ∙ stops in
-      record {
-        outcome = says ∙ first-refuses (verdict_of a) done e;
-        solved = as-was a.x _ e;
-        of_y = as-was a.y _ e;
-        of_scalar_perm = as-was a.scalar_perm _ e;
-        of_sizes = as-was a.sizes _ e;
-        of_scalar_starts = as-was a.scalar_starts _ e;
-        by_columns = λ passes. absurd (false≢true (sym passes ∙ e));
-        fresh = λ passes. absurd (false≢true (sym passes ∙ e));
-      }
-
-  pub answered : (r : Solved) (x y : List Float) (scalar_perm sizes starts : List ℕ) → told r ≡ verdict_of a → refuses (told r) ≡ false
+  answered-ok : (x y : List Float) (scalar_perm sizes starts : List ℕ) → done ≡ verdict_of a
       → SolvedBy a.dims a.order a.l_starts a.l_rows a.l_offsets a.l_values a.diag a.d a.x x → Cleared a.dims a.y a.scalar_perm a.sizes a.scalar_starts y scalar_perm sizes starts
-      → Solves a r x y scalar_perm sizes starts
-  answered r x y scalar_perm sizes starts says passes solves cleared =
-      let e : refuses (verdict_of a) ≡ false = ap refuses (sym says) ∙ passes in
+      → Solves a (Ok tt) x y scalar_perm sizes starts
+  answered-ok x y scalar_perm sizes starts says solves cleared =
+      let e : refuses (verdict_of a) ≡ false = ap refuses (sym says) in
       record {
-        outcome = passed r passes ∙ first_passes (verdict_of a) done e;
+        outcome = first_passes (verdict_of a) done e;
         solved = as-new a.x _ x e (solves (columns_of a) (held e));
         of_y = as-new a.y _ y e cleared.of_y;
         of_scalar_perm = as-new a.scalar_perm _ scalar_perm e cleared.of_perm;
@@ -169,3 +151,14 @@ module _ (a : Call) where
         by_columns = λ _. solves;
         fresh = is-fresh;
       }
+
+  -- as the checks answer
+  pub ok-passes : (r : Result Unit SolveError) → told r ≡ verdict_of a → is_ok r ≡ true → refuses (verdict_of a) ≡ false
+  ok-passes (Ok w) says e = ap refuses (sym says)
+  ok-passes (Err x) says e = absurd (false≢true e)
+
+  pub answered : (r : Result Unit SolveError) (x y : List Float) (scalar_perm sizes starts : List ℕ) → told r ≡ verdict_of a → is_ok r ≡ true
+      → SolvedBy a.dims a.order a.l_starts a.l_rows a.l_offsets a.l_values a.diag a.d a.x x → Cleared a.dims a.y a.scalar_perm a.sizes a.scalar_starts y scalar_perm sizes starts
+      → Solves a r x y scalar_perm sizes starts
+  answered (Ok w) x y scalar_perm sizes starts says e solves cleared = answered-ok x y scalar_perm sizes starts says solves cleared
+  answered (Err x) _ _ _ _ _ says e solves cleared = absurd (false≢true e)

@@ -1,8 +1,8 @@
 -- What `solve::solve_inplace` answers, and what it leaves in every lent place, for any arguments. Assumes nothing.
-use Rattle.std.specs.Prelude.{◌≡◌, ℕ, ◌+◌, false, List, [], ◌∷◌, ◌++◌, length, drop, replicate}
+use Rattle.std.specs.Prelude.{◌≡◌, ℕ, ◌+◌, false, List, [], ◌∷◌, ◌++◌, length, drop, replicate, Result}
 use Rattle.std.specs.Prelude.{Float}
 use Rattle.scalar.specs.Block.{zeros}
-use Rattle.refusal.specs.Refusal.{Told, done, too_many_blocks, bad_dimension, bad_starts, too_many_stored, out_of_range, bad_parent, not_increasing, bad_value_count, bad_permutation, bad_late_flags, short_buffer, shapes_disagree, refuses, first_of, verdict, after}
+use Rattle.refusal.specs.Refusal.{Told, done, told_by, too_many_blocks, bad_dimension, bad_starts, too_many_stored, out_of_range, bad_parent, not_increasing, bad_value_count, bad_permutation, bad_late_flags, short_buffer, shapes_disagree, refuses, first_of, verdict, after}
 use Rattle.needs.specs.Needs.{Lent, lent_from, need_checks}
 use Rattle.order.specs.Order.{sizes_of}
 use Rattle.scalars.specs.Scalars.{scalar_count}
@@ -13,30 +13,32 @@ use Rattle.solution.specs.Flat.{column_in, HoldsColumns}
 use Rattle.solve_checks.specs.Verdict.{bad_factor, solve_verdict}
 use Rattle.solve_match.specs.Verdict.{bad_column, match_verdict}
 use Rattle.solve_match.specs.Fresh.{Fresh}
-use Rattle.solve.specs.declared.Solved.{Solved}
-use Rattle.solve.specs.declared.Solved.TheVariants as variant
+use Rattle.solve.specs.declared.SolveError.{SolveError}
+use Rattle.solve.specs.declared.SolveError.TheVariants as variant
 
 -- document 01's number and values for each case
-abbrev pub told : Solved → Told
-told (variant.Accepted w) = done
-told variant.Blocks = too_many_blocks
-told (variant.Dimension place) = bad_dimension place
-told (variant.Starts place) = bad_starts place
-told (variant.LStarts place) = bad_factor 3 place
-told variant.Stored = too_many_stored
-told (variant.Row place) = out_of_range place
-told (variant.LRow place) = bad_factor 5 place
-told (variant.Parent block) = bad_parent block
-told (variant.Order place) = not_increasing place
-told (variant.LOrder place) = bad_factor 6 place
-told variant.LValues = bad_value_count
-told (variant.Permutation place) = bad_permutation place
-told (variant.Late place) = bad_late_flags place
-told (variant.Short which need) = short_buffer which need
-told (variant.Mismatch place) = shapes_disagree place
-told (variant.Missing column) = bad_column 8 column 0
-told (variant.Extra column) = bad_column 8 column 1
-told (variant.OtherParent column) = bad_column 6 column 2
+abbrev pub told_error : SolveError → Told
+told_error variant.Blocks = too_many_blocks
+told_error (variant.Dimension place) = bad_dimension place
+told_error (variant.Starts place) = bad_starts place
+told_error (variant.LStarts place) = bad_factor 3 place
+told_error variant.Stored = too_many_stored
+told_error (variant.Row place) = out_of_range place
+told_error (variant.LRow place) = bad_factor 5 place
+told_error (variant.Parent block) = bad_parent block
+told_error (variant.Order place) = not_increasing place
+told_error (variant.LOrder place) = bad_factor 6 place
+told_error variant.LValues = bad_value_count
+told_error (variant.Permutation place) = bad_permutation place
+told_error (variant.Late place) = bad_late_flags place
+told_error (variant.Short which need) = short_buffer which need
+told_error (variant.Mismatch place) = shapes_disagree place
+told_error (variant.Missing column) = bad_column 8 column 0
+told_error (variant.Extra column) = bad_column 8 column 1
+told_error (variant.OtherParent column) = bad_column 6 column 2
+
+abbrev pub told : Result Unit SolveError → Told
+told = told_by (λ w. done) told_error
 
 -- ---- the verdict
 
@@ -120,7 +122,7 @@ abbrev pub cleared : ℕ → List ℕ → List ℕ
 cleared n xs = replicate n 0 ++ drop n xs
 
 -- Refused, all is as it was; accepted, x is the solution and scratch is zeros.
-pub record Solves (a : Call) (r : Solved) (x y : List Float) (scalar_perm sizes scalar_starts : List ℕ) : Type 0 where
+pub record Solves (a : Call) (r : Result Unit SolveError) (x y : List Float) (scalar_perm sizes scalar_starts : List ℕ) : Type 0 where
   pub outcome : told r ≡ first_of (verdict_of a) done
   pub solved : x ≡ after (verdict_of a) a.x (solution a.dims a.order (columns_of a) a.x)
   -- scratch

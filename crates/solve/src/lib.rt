@@ -2,26 +2,24 @@
 // then anything is written.
 #![tactic(auto)]
 
-ghost use Rattle.std.specs.Prelude.{◌≡◌, true, length};
-ghost use Rattle.refusal.specs.Refusal.{refuses, first_of, verdict};
-ghost use Rattle.needs.specs.Needs.{need_checks};
-ghost use Rattle.tables.specs.Verdict.{past_diagonal};
-ghost use Rattle.tables.specs.Sound.{PlanSound, Columns};
+ghost use Rattle.std.specs.Prelude.{◌≡◌, length};
+ghost use Rattle.needs.specs.Needs.{told_error as told_short};
 ghost use Rattle.solve_checks.specs.Outcome.{told_solve_error};
-ghost use Rattle.solve_match.specs.Verdict.{match_verdict};
-ghost use Rattle.solve.specs.Solve.{told, lent_list, call_verdict, call, Solves};
+ghost use Rattle.solve_match.specs.Outcome.{told_match_error};
+ghost use Rattle.solve.specs.Solve.{told, told_error, call_verdict, call, Solves};
 
 use factor_tables::cores::scalars;
-use needs::{Room, first_short};
-use refusal::Worked;
+use needs::{ShortBuffer, first_short};
+use refusal::Refusal;
+pub use solve_checks::{Factor, System};
 use solve_checks::{SolveTablesError, check_solve};
 use solve_core::cores::solve_lent;
-use solve_match::cores::{Matched, first_mismatch};
+use solve_match::MatchError;
+use solve_match::cores::first_mismatch;
 
-// The outcome of `solve_inplace`.
-#[derive(Clone, Copy)]
-pub enum Solved {
-    Accepted(Worked),
+// The refusals of `solve_inplace`.
+#[derive(Clone, Copy, Debug, PartialEq, Eq)]
+pub enum SolveError {
     // 1
     Blocks,
     // 2: the block.
@@ -60,250 +58,149 @@ pub enum Solved {
     OtherParent { column: usize },
 }
 
+impl Refusal for SolveError {
+    ghost told = { told_error };
+
+    fn number(&self) -> u32 {
+        match self {
+            SolveError::Blocks => 1,
+            SolveError::Dimension { place: _ } => 2,
+            SolveError::Starts { place: _ } => 3,
+            SolveError::LStarts { place: _ } => 3,
+            SolveError::Stored => 4,
+            SolveError::Row { place: _ } => 5,
+            SolveError::LRow { place: _ } => 5,
+            SolveError::Parent { block: _ } => 5,
+            SolveError::Order { place: _ } => 6,
+            SolveError::LOrder { place: _ } => 6,
+            SolveError::LValues => 7,
+            SolveError::Permutation { place: _ } => 8,
+            SolveError::Late { place: _ } => 9,
+            SolveError::Short { which: _, need: _ } => 11,
+            SolveError::Mismatch { place: _ } => 12,
+            SolveError::Missing { column: _ } => 12,
+            SolveError::Extra { column: _ } => 12,
+            SolveError::OtherParent { column: _ } => 12,
+        }
+    }
+}
+
+// Tables that are refused refuse the solve in the same words.
+impl From<SolveTablesError> for SolveError {
+    ghost from_gives = { λ e r. told_error r ≡ told_solve_error e };
+
+    fn from(e: SolveTablesError) -> SolveError {
+        match e {
+            SolveTablesError::Blocks => SolveError::Blocks,
+            SolveTablesError::Dimension { place } => SolveError::Dimension { place },
+            SolveTablesError::Starts { place } => SolveError::Starts { place },
+            SolveTablesError::LStarts { place } => SolveError::LStarts { place },
+            SolveTablesError::Stored => SolveError::Stored,
+            SolveTablesError::Row { place } => SolveError::Row { place },
+            SolveTablesError::LRow { place } => SolveError::LRow { place },
+            SolveTablesError::Parent { block } => SolveError::Parent { block },
+            SolveTablesError::Order { place } => SolveError::Order { place },
+            SolveTablesError::LOrder { place } => SolveError::LOrder { place },
+            SolveTablesError::LValues => SolveError::LValues,
+            SolveTablesError::Permutation { place } => SolveError::Permutation { place },
+            SolveTablesError::Late { place } => SolveError::Late { place },
+        }
+    }
+}
+
+// So does a short buffer.
+impl From<ShortBuffer> for SolveError {
+    ghost from_gives = { λ e r. told_error r ≡ told_short e };
+
+    fn from(e: ShortBuffer) -> SolveError {
+        SolveError::Short {
+            which: e.which,
+            need: e.need,
+        }
+    }
+}
+
+// And so does a factor of another system.
+impl From<MatchError> for SolveError {
+    ghost from_gives = { λ e r. told_error r ≡ told_match_error e };
+
+    fn from(e: MatchError) -> SolveError {
+        match e {
+            MatchError::Mismatch { place } => SolveError::Mismatch { place },
+            MatchError::Missing { column } => SolveError::Missing { column },
+            MatchError::Extra { column } => SolveError::Extra { column },
+            MatchError::Parent { column } => SolveError::OtherParent { column },
+        }
+    }
+}
+
+// What a solve is lent.
+#[derive(Drop)]
+pub struct Lent<'a> {
+    // The right side in old order, a number for each scalar exactly; it becomes the solution, in old order.
+    pub x: &'a mut [f64],
+    // Scratch, the vector by new number: the scalars.
+    pub y: &'a mut [f64],
+    // Scratch, the old number of each new scalar: the scalars.
+    pub scalar_perm: &'a mut [u32],
+    // Scratch, the dimension of each new block: n.
+    pub sizes: &'a mut [u32],
+    // Scratch, where the scalars of each block begin: n + 1.
+    pub scalar_starts: &'a mut [u32],
+}
+
 // The solution of A x = b with the factor L D Lᵀ that `factorize` made of A: forward columns ascending, blocks, backward columns
-// descending. n = dims.len() blocks; the scalars are the sum of the dimensions.
-//
-// The system, as it was handed to `factorize`, without its values and tolerance: `dims`, the dimension of each block; `starts` and `rows`,
-// A's tables from the diagonal down; `perm`, the old number of each new one; `late`, a flag 0 or 1 for each block.
-//
-// The factor, each list exactly the first places that `factorize` filled: `order`, the permutation after the late move (n); `parents`, the
-// elimination tree (n); `l_starts` (n + 1) and `l_rows`, the rows of L; `l_offsets`, where the body of each of them begins, and L's
-// numbers last; `l_values`, those bodies; `diag`, the unit factors of the diagonal blocks (the sum of the dimensions' squares); `d`, their
-// pivots (the scalars). Its tables must be those of this system's own plan, or it is stale and refused by 12; its numbers may be any.
-//
-// Lent:
-// - `x`, the right side in old order, a number for each scalar exactly; it becomes the solution, in old order.
-// - Scratch, each with its need: `y`, the vector by new number (the scalars); `scalar_perm`, the old number of each new scalar (the
-//   scalars); `sizes`, the dimension of each new block (n); `scalar_starts`, where the scalars of each block begin (n + 1).
+// descending. n blocks; the scalars are the sum of the dimensions. The factor's tables must be those of this system's own plan, or it is
+// stale and refused by 12; its numbers may be any.
 //
 // What is left:
 // - Accepted: x is the solution, scratch is zeros in its needed part and beyond it as it was.
 // - Refused: all is as it was.
-pub fn solve_inplace(
-    dims: &[u32],
-    starts: &[u32],
-    rows: &[u32],
-    perm: &[u32],
-    late: &[u32],
-    order: &[u32],
-    parents: &[u32],
-    l_starts: &[u32],
-    l_rows: &[u32],
-    l_offsets: &[u32],
-    l_values: &[f64],
-    diag: &[f64],
-    d: &[f64],
-    x: &mut [f64],
-    y: &mut [f64],
-    scalar_perm: &mut [u32],
-    sizes: &mut [u32],
-    scalar_starts: &mut [u32],
-) -> Solved
-    ensures { Solves (call dims.now starts.now rows.now perm.now late.now order.now parents.now l_starts.now l_rows.now l_offsets.now l_values.now diag.now d.now x.old y.old scalar_perm.old sizes.old scalar_starts.old) result x.new y.new scalar_perm.new sizes.new scalar_starts.new }
+pub fn solve_inplace(system: &System, factor: &Factor, lent: &mut Lent) -> Result<(), SolveError>
+    ensures solves { Solves (call system.now.dims.now system.now.starts.now system.now.rows.now system.now.perm.now system.now.late.now factor.now.order.now factor.now.parents.now factor.now.l_starts.now factor.now.l_rows.now factor.now.l_offsets.now factor.now.l_values.now factor.now.diag.now factor.now.d.now lent.old.x.now lent.old.y.now lent.old.scalar_perm.now lent.old.sizes.now lent.old.scalar_starts.now) result lent.new.x.now lent.new.y.now lent.new.scalar_perm.now lent.new.sizes.now lent.new.scalar_starts.now }
+    ensures same { (lent.new.x.ghost_name ≡ lent.old.x.ghost_name) × (lent.new.y.ghost_name ≡ lent.old.y.ghost_name) × (lent.new.scalar_perm.ghost_name ≡ lent.old.scalar_perm.ghost_name) × (lent.new.sizes.ghost_name ≡ lent.old.sizes.ghost_name) × (lent.new.scalar_starts.ghost_name ≡ lent.old.scalar_starts.ghost_name) }
 {
-    let answer = check_call(
-        dims,
-        starts,
-        rows,
-        perm,
-        late,
-        order,
-        parents,
-        l_starts,
-        l_rows,
-        l_offsets,
-        l_values,
-        diag.len(),
-        d.len(),
-        x.len(),
-        y.len(),
-        scalar_perm.len(),
-        sizes.len(),
-        scalar_starts.len(),
-    );
-    if refused(answer) {
-        return answer;
+    let checked = check_call(system, factor, lent);
+    let passes = checked.is_ok();
+    if passes {
+        solve_lent(
+            system.dims,
+            factor.order,
+            factor.l_starts,
+            factor.l_rows,
+            factor.l_offsets,
+            factor.l_values,
+            factor.diag,
+            factor.d,
+            lent.x,
+            lent.y,
+            lent.scalar_perm,
+            lent.sizes,
+            lent.scalar_starts,
+        );
     }
-    solve_lent(
-        dims,
-        order,
-        l_starts,
-        l_rows,
-        l_offsets,
-        l_values,
-        diag,
-        d,
-        x,
-        y,
-        scalar_perm,
-        sizes,
-        scalar_starts,
-    );
-    answer
+    checked
 }
 
-// The checks of the call by number: 1 to 9, 11, 12. What is not read is handed over by its length.
-fn check_call(
-    dims: &[u32],
-    starts: &[u32],
-    rows: &[u32],
-    perm: &[u32],
-    late: &[u32],
-    order: &[u32],
-    parents: &[u32],
-    l_starts: &[u32],
-    l_rows: &[u32],
-    l_offsets: &[u32],
-    l_values: &[f64],
-    diag: usize,
-    d: usize,
-    x: usize,
-    y: usize,
-    scalar_perm: usize,
-    sizes: usize,
-    scalar_starts: usize,
-) -> Solved
-    ensures { told result ≡ call_verdict dims.now starts.now rows.now perm.now late.now order.now parents.now l_starts.now l_rows.now l_offsets.now l_values.now diag d x y scalar_perm sizes scalar_starts }
+// The checks of the call by number: 1 to 9, 11, 12. Nothing that is lent is read.
+#[tactic(auto, using(crate::proofs::CallLaws::call_laws))]
+fn check_call(system: &System, factor: &Factor, lent: &Lent) -> Result<(), SolveError>
+    ensures { told result ≡ call_verdict system.now.dims.now system.now.starts.now system.now.rows.now system.now.perm.now system.now.late.now factor.now.order.now factor.now.parents.now factor.now.l_starts.now factor.now.l_rows.now factor.now.l_offsets.now factor.now.l_values.now (length factor.now.diag.now) (length factor.now.d.now) (length lent.now.x.now) (length lent.now.y.now) (length lent.now.scalar_perm.now) (length lent.now.sizes.now) (length lent.now.scalar_starts.now) }
 {
-    let tables = check_solve(
-        dims, starts, rows, perm, late, parents, l_starts, l_rows, l_values,
-    );
-    match tables {
-        Ok(_) => lent_core(
-            dims,
-            starts,
-            rows,
-            perm,
-            late,
-            order,
-            parents,
-            l_starts,
-            l_rows,
-            l_offsets,
-            diag,
-            d,
+    check_solve(system, factor)?;
+    let n = system.dims.len();
+    let all = scalars(system.dims);
+    let x = lent.x.len();
+    first_short(
+        &[
             x,
-            y,
-            scalar_perm,
-            sizes,
-            scalar_starts,
-        ),
-        Err(e) => of_tables(e),
-    }
-}
-
-// A refusal of the tables, as the solve's own.
-fn of_tables(e: SolveTablesError) -> Solved
-    ensures { (told result ≡ told_solve_error e) × (refuses (told result) ≡ true) }
-{
-    match e {
-        SolveTablesError::Blocks => Solved::Blocks,
-        SolveTablesError::Dimension { place } => Solved::Dimension { place },
-        SolveTablesError::Starts { place } => Solved::Starts { place },
-        SolveTablesError::LStarts { place } => Solved::LStarts { place },
-        SolveTablesError::Stored => Solved::Stored,
-        SolveTablesError::Row { place } => Solved::Row { place },
-        SolveTablesError::LRow { place } => Solved::LRow { place },
-        SolveTablesError::Parent { block } => Solved::Parent { block },
-        SolveTablesError::Order { place } => Solved::Order { place },
-        SolveTablesError::LOrder { place } => Solved::LOrder { place },
-        SolveTablesError::LValues => Solved::LValues,
-        SolveTablesError::Permutation { place } => Solved::Permutation { place },
-        SolveTablesError::Late { place } => Solved::Late { place },
-    }
-}
-
-// 11, then 12, where the tables have passed.
-fn lent_core(
-    dims: &[u32],
-    starts: &[u32],
-    rows: &[u32],
-    perm: &[u32],
-    late: &[u32],
-    order: &[u32],
-    parents: &[u32],
-    l_starts: &[u32],
-    l_rows: &[u32],
-    l_offsets: &[u32],
-    diag: usize,
-    d: usize,
-    x: usize,
-    y: usize,
-    scalar_perm: usize,
-    sizes: usize,
-    scalar_starts: usize,
-) -> Solved
-    requires { PlanSound dims.now starts.now rows.now perm.now late.now × Columns past_diagonal (length dims.now) l_starts.now l_rows.now }
-    ensures { told result ≡ first_of (verdict (need_checks (lent_list dims.now x y scalar_perm sizes scalar_starts))) (match_verdict dims.now starts.now rows.now perm.now late.now order.now parents.now l_starts.now l_rows.now l_offsets.now diag d x) }
-{
-    let n = dims.len();
-    let all = scalars(dims);
-    let room = first_short(
-        &[x, y, scalar_perm, sizes, scalar_starts],
+            lent.y.len(),
+            lent.scalar_perm.len(),
+            lent.sizes.len(),
+            lent.scalar_starts.len(),
+        ],
         &[0, all, all, n, n + 1],
-    );
-    match room {
-        Room::Met(_) => match_core(
-            dims, starts, rows, perm, late, order, parents, l_starts, l_rows, l_offsets, diag, d, x,
-        ),
-        Room::Short { which, need } => Solved::Short { which, need },
-    }
-}
-
-// 12.
-fn match_core(
-    dims: &[u32],
-    starts: &[u32],
-    rows: &[u32],
-    perm: &[u32],
-    late: &[u32],
-    order: &[u32],
-    parents: &[u32],
-    l_starts: &[u32],
-    l_rows: &[u32],
-    l_offsets: &[u32],
-    diag: usize,
-    d: usize,
-    x: usize,
-) -> Solved
-    requires { PlanSound dims.now starts.now rows.now perm.now late.now × Columns past_diagonal (length dims.now) l_starts.now l_rows.now }
-    ensures { told result ≡ match_verdict dims.now starts.now rows.now perm.now late.now order.now parents.now l_starts.now l_rows.now l_offsets.now diag d x }
-{
-    let matched = first_mismatch(
-        dims, starts, rows, perm, late, order, parents, l_starts, l_rows, l_offsets, diag, d, x,
-    );
-    match matched {
-        Matched::Same(_) => Solved::Accepted(Worked {}),
-        Matched::Mismatch { place } => Solved::Mismatch { place },
-        Matched::Missing { column } => Solved::Missing { column },
-        Matched::Extra { column } => Solved::Extra { column },
-        Matched::Parent { column } => Solved::OtherParent { column },
-    }
-}
-
-// Whether the call is refused.
-fn refused(answer: Solved) -> bool
-    ensures { result ≡ refuses (told answer) }
-{
-    match answer {
-        Solved::Accepted(_) => false,
-        Solved::Blocks => true,
-        Solved::Dimension { place: _ } => true,
-        Solved::Starts { place: _ } => true,
-        Solved::LStarts { place: _ } => true,
-        Solved::Stored => true,
-        Solved::Row { place: _ } => true,
-        Solved::LRow { place: _ } => true,
-        Solved::Parent { block: _ } => true,
-        Solved::Order { place: _ } => true,
-        Solved::LOrder { place: _ } => true,
-        Solved::LValues => true,
-        Solved::Permutation { place: _ } => true,
-        Solved::Late { place: _ } => true,
-        Solved::Short { which: _, need: _ } => true,
-        Solved::Mismatch { place: _ } => true,
-        Solved::Missing { column: _ } => true,
-        Solved::Extra { column: _ } => true,
-        Solved::OtherParent { column: _ } => true,
-    }
+    )?;
+    first_mismatch(system, factor, x)?;
+    Ok(())
 }

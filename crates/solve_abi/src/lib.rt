@@ -10,9 +10,10 @@ ghost use Rattle.solve.specs.Solve as solve;
 ghost use Rattle.marks.specs.Marks as marks;
 ghost use Rattle.solve_abi.specs.Number.{ExportsSolve, ExportsMarks};
 
-use marks::Marked;
+use marks::{MarksError, Tally};
+use refusal::number_of;
 use report::carry;
-use solve::Solved;
+use solve::{Factor, Lent, SolveError, System, solve_inplace};
 
 // The solve: `solve::solve_inplace`, which names each slice. Accepted, `told` has zeros; refused, the place, and 2 where it is in the
 // factor's starts or rows, 1 where it is in its parents, or the buffer and its need, or of a wrong column the table, the column and what is
@@ -41,12 +42,14 @@ pub extern "C" fn beyqaloosh_solve_inplace(
 ) -> u32
     ensures { ExportsSolve (call dims.now starts.now rows.now perm.now late.now order.now parents.now l_starts.now l_rows.now l_offsets.now l_values.now diag.now d.now x.old y.old scalar_perm.old sizes.old scalar_starts.old) result told.new x.new y.new scalar_perm.new sizes.new scalar_starts.new }
 {
-    let s = solve::solve_inplace(
+    let system = System {
         dims,
         starts,
         rows,
         perm,
         late,
+    };
+    let factor = Factor {
         order,
         parents,
         l_starts,
@@ -55,12 +58,15 @@ pub extern "C" fn beyqaloosh_solve_inplace(
         l_values,
         diag,
         d,
+    };
+    let mut lent = Lent {
         x,
         y,
         scalar_perm,
         sizes,
         scalar_starts,
-    );
+    };
+    let s = solve_inplace(&system, &factor, &mut lent);
     tell_solved(s, told)
 }
 
@@ -82,43 +88,54 @@ pub extern "C" fn beyqaloosh_marks(
 }
 
 // The number of a solve's outcome, and what it carries.
-fn tell_solved(s: Solved, told: &mut [u64; 3]) -> u32
+fn tell_solved(s: Result<(), SolveError>, told: &mut [u64; 3]) -> u32
     ensures { (result ≡ refusal.number (solve.told s)) × (told.new ≡ carried (solve.told s)) }
 {
+    let number = number_of(&s);
     match s {
-        Solved::Accepted(_) => carry(told, 0, 0, 0, 0),
-        Solved::Blocks => carry(told, 1, 0, 0, 0),
-        Solved::Dimension { place } => carry(told, 2, place as u64, 0, 0),
-        Solved::Starts { place } => carry(told, 3, place as u64, 0, 0),
-        Solved::LStarts { place } => carry(told, 3, place as u64, 2, 0),
-        Solved::Stored => carry(told, 4, 0, 0, 0),
-        Solved::Row { place } => carry(told, 5, place as u64, 0, 0),
-        Solved::LRow { place } => carry(told, 5, place as u64, 2, 0),
-        Solved::Parent { block } => carry(told, 5, block as u64, 1, 0),
-        Solved::Order { place } => carry(told, 6, place as u64, 0, 0),
-        Solved::LOrder { place } => carry(told, 6, place as u64, 2, 0),
-        Solved::LValues => carry(told, 7, 0, 0, 0),
-        Solved::Permutation { place } => carry(told, 8, place as u64, 0, 0),
-        Solved::Late { place } => carry(told, 9, place as u64, 0, 0),
-        Solved::Short { which, need } => carry(told, 11, which as u64, need as u64, 0),
-        Solved::Mismatch { place } => carry(told, 12, place as u64, 0, 0),
-        Solved::Missing { column } => carry(told, 12, 8, column as u64, 0),
-        Solved::Extra { column } => carry(told, 12, 8, column as u64, 1),
-        Solved::OtherParent { column } => carry(told, 12, 6, column as u64, 2),
+        Ok(_) => carry(told, number, 0, 0, 0),
+        Err(SolveError::Blocks | SolveError::Stored | SolveError::LValues) => {
+            carry(told, number, 0, 0, 0)
+        }
+        Err(
+            SolveError::Dimension { place }
+            | SolveError::Starts { place }
+            | SolveError::Row { place }
+            | SolveError::Order { place }
+            | SolveError::Permutation { place }
+            | SolveError::Late { place }
+            | SolveError::Mismatch { place },
+        ) => carry(told, number, place as u64, 0, 0),
+        Err(
+            SolveError::LStarts { place }
+            | SolveError::LRow { place }
+            | SolveError::LOrder { place },
+        ) => carry(told, number, place as u64, 2, 0),
+        Err(SolveError::Parent { block }) => carry(told, number, block as u64, 1, 0),
+        Err(SolveError::Short { which, need }) => {
+            carry(told, number, which as u64, need as u64, 0)
+        }
+        Err(SolveError::Missing { column }) => carry(told, number, 8, column as u64, 0),
+        Err(SolveError::Extra { column }) => carry(told, number, 8, column as u64, 1),
+        Err(SolveError::OtherParent { column }) => carry(told, number, 6, column as u64, 2),
     }
 }
 
 // The number of the marks' outcome, and what it carries.
-fn tell_marked(m: Marked, told: &mut [u64; 3]) -> u32
+fn tell_marked(m: Result<Tally, MarksError>, told: &mut [u64; 3]) -> u32
     ensures { (result ≡ refusal.number (marks.told m)) × (told.new ≡ carried (marks.told m)) }
 {
+    let number = number_of(&m);
     match m {
-        Marked::Accepted(c) => carry(told, 0, c.silent as u64, 0, 0),
-        Marked::Blocks => carry(told, 1, 0, 0, 0),
-        Marked::Dimension { place } => carry(told, 2, place as u64, 0, 0),
-        Marked::Permutation { place } => carry(told, 8, place as u64, 0, 0),
-        Marked::Tolerance => carry(told, 10, 0, 0, 0),
-        Marked::Short { which, need } => carry(told, 11, which as u64, need as u64, 0),
-        Marked::Shape { place } => carry(told, 12, place as u64, 0, 0),
+        Ok(c) => carry(told, number, c.silent as u64, 0, 0),
+        Err(MarksError::Blocks | MarksError::Tolerance) => carry(told, number, 0, 0, 0),
+        Err(
+            MarksError::Dimension { place }
+            | MarksError::Permutation { place }
+            | MarksError::Shape { place },
+        ) => carry(told, number, place as u64, 0, 0),
+        Err(MarksError::Short { which, need }) => {
+            carry(told, number, which as u64, need as u64, 0)
+        }
     }
 }

@@ -17,6 +17,40 @@ use factor_order::cores::area_under;
 use refusal::Refusal;
 use tables::cores::{first_dim, first_late, first_perm, first_start};
 
+// A system as a solve is called with it: as it was handed to `factorize`, without its values and tolerance.
+#[derive(Clone, Copy, Drop)]
+pub struct System<'a> {
+    // The dimension of each block.
+    pub dims: &'a [u32],
+    // A's tables from the diagonal down.
+    pub starts: &'a [u32],
+    pub rows: &'a [u32],
+    // The old number of each new block.
+    pub perm: &'a [u32],
+    // A flag 0 or 1 for each block.
+    pub late: &'a [u32],
+}
+
+// A factor, each list exactly the first places that `factorize` filled. Its tables go by new number.
+#[derive(Clone, Copy, Drop)]
+pub struct Factor<'a> {
+    // The permutation after the late move: n blocks.
+    pub order: &'a [u32],
+    // The elimination tree: n.
+    pub parents: &'a [u32],
+    // The rows of L: n + 1 starts.
+    pub l_starts: &'a [u32],
+    pub l_rows: &'a [u32],
+    // Where the body of each of them begins, and L's numbers last.
+    pub l_offsets: &'a [u32],
+    // Those bodies.
+    pub l_values: &'a [f64],
+    // The unit factors of the diagonal blocks: the sum of the dimensions' squares.
+    pub diag: &'a [f64],
+    // Their pivots: the scalars.
+    pub d: &'a [f64],
+}
+
 // The refusals of a check of the tables of a solve.
 #[derive(Clone, Copy, Debug, PartialEq, Eq)]
 pub enum SolveTablesError {
@@ -73,59 +107,55 @@ impl Refusal for SolveTablesError {
 // A's tables, the permutation, the late flags, and the tables of a factor: the parents of its blocks, whatever their count, and its
 // starts and rows, whose column j stores rows past j.
 #[tactic(auto, using(crate::proofs::SolveLaws::solve_laws))]
-pub fn check_solve(
-    dims: &[u32],
-    starts: &[u32],
-    rows: &[u32],
-    perm: &[u32],
-    late: &[u32],
-    parents: &[u32],
-    l_starts: &[u32],
-    l_rows: &[u32],
-    l_values: &[f64],
-) -> Result<(), SolveTablesError>
-    ensures { told_solve result ≡ solve_verdict dims.now starts.now rows.now perm.now late.now parents.now l_starts.now l_rows.now l_values.now }
+pub fn check_solve(system: &System, factor: &Factor) -> Result<(), SolveTablesError>
+    ensures { told_solve result ≡ solve_verdict system.now.dims.now system.now.starts.now system.now.rows.now system.now.perm.now system.now.late.now factor.now.parents.now factor.now.l_starts.now factor.now.l_rows.now factor.now.l_values.now }
 {
-    let n = dims.len();
+    let n = system.dims.len();
     if n > MAX_BLOCKS {
         return Err(SolveTablesError::Blocks);
     }
-    if let Some(place) = first_dim(dims) {
+    if let Some(place) = first_dim(system.dims) {
         return Err(SolveTablesError::Dimension { place });
     }
-    let m = rows.len();
-    if let Some(place) = first_start(starts, n, m) {
+    let m = system.rows.len();
+    if let Some(place) = first_start(system.starts, n, m) {
         return Err(SolveTablesError::Starts { place });
     }
-    if let Some(place) = first_start(l_starts, n, l_rows.len()) {
+    if let Some(place) = first_start(factor.l_starts, n, factor.l_rows.len()) {
         return Err(SolveTablesError::LStarts { place });
     }
     if m > MAX_STORED {
         return Err(SolveTablesError::Stored);
     }
-    if let Some(place) = first_row(starts, rows, n, Least::Diagonal) {
+    if let Some(place) = first_row(system.starts, system.rows, n, Least::Diagonal) {
         return Err(SolveTablesError::Row { place });
     }
-    if let Some(place) = first_row(l_starts, l_rows, n, Least::PastDiagonal) {
+    if let Some(place) = first_row(factor.l_starts, factor.l_rows, n, Least::PastDiagonal) {
         return Err(SolveTablesError::LRow { place });
     }
-    if let Some(block) = first_parent_of(parents, n) {
+    if let Some(block) = first_parent_of(factor.parents, n) {
         return Err(SolveTablesError::Parent { block });
     }
-    if let Some(place) = first_fall(starts, rows, n) {
+    if let Some(place) = first_fall(system.starts, system.rows, n) {
         return Err(SolveTablesError::Order { place });
     }
-    if let Some(place) = first_fall(l_starts, l_rows, n) {
+    if let Some(place) = first_fall(factor.l_starts, factor.l_rows, n) {
         return Err(SolveTablesError::LOrder { place });
     }
-    if let Some(place) = first_perm(perm, n) {
+    if let Some(place) = first_perm(system.perm, n) {
         return Err(SolveTablesError::Permutation { place });
     }
-    if let Some(place) = first_late(late, n) {
+    if let Some(place) = first_late(system.late, n) {
         return Err(SolveTablesError::Late { place });
     }
-    let need = area_under(dims, perm, late, l_starts, l_rows);
-    if l_values.len() != need {
+    let need = area_under(
+        system.dims,
+        system.perm,
+        system.late,
+        factor.l_starts,
+        factor.l_rows,
+    );
+    if factor.l_values.len() != need {
         return Err(SolveTablesError::LValues);
     }
     Ok(())

@@ -8,8 +8,7 @@ use Rattle.scalars.specs.Scalars.{scalar_count}
 use Rattle.machine.specs.System.{System, blocks}
 use Rattle.layout.specs.Layout.{units_need}
 use Rattle.factor_setup.specs.Exact.{stored, numbers}
-use Rattle.factor_core.specs.Factorize.{told, Places, early, Factors}
-use Rattle.factor_core.specs.declared.Factorized.{Factorized}
+use Rattle.factor_core.specs.Factorize.{Factorized, told, Places, early, Factors}
 use Rattle.solve_match.specs.Fresh.{Fresh}
 use Rattle.solve.specs.Solve.{call_verdict}
 

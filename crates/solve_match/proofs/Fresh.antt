@@ -23,7 +23,6 @@ use Rattle.layout.specs.Layout.{units_need}
 use Rattle.layout.proofs.PlanLaws.{plan_columns}
 use Rattle.factor_match.specs.Match.{match_of}
 use Rattle.factor_match.proofs.SameLaws.{same_tables, tables-same}
-use Rattle.factor_match.specs.declared.cores.Match.TheVariants as kind
 use Rattle.factor_order.specs.Same.{same_list}
 use Rattle.factor_order.proofs.SameLaws.{same-equal, equal-same}
 use Rattle.solve_match.specs.Verdict.{match_checks, match_verdict, told_match}

@@ -1,12 +1,13 @@
 -- What each check of 12 says where its test fails, and where it holds, and what one that passes says. Assumes nothing.
-use Rattle.std.specs.Prelude.{◌≡◌, ℕ, Bool, true, false}
+use Rattle.std.specs.Prelude.{◌≡◌, ℕ, Bool, true, false, Result, Ok, Err}
+use mathlib.Core.Bool.{false≢true}
 use mathlib.Core.Path.{refl, ◌∙◌, sym}
 use native.Mathlib.Nat.{mul-one}
 use Rattle.refusal.specs.Refusal.{done, shapes_disagree, refuses}
 use Rattle.refusal.proofs.Laws.{area-differs, area-fits, column-passes}
-use Rattle.factor_match.specs.declared.cores.Match.{Match}
-use Rattle.factor_match.specs.declared.cores.Match.TheVariants as kind
-use Rattle.solve_match.specs.Verdict.{table_check, count_check, told_match}
+use Rattle.factor_match.specs.declared.cores.ColumnError.{ColumnError}
+use Rattle.factor_match.specs.declared.cores.ColumnError.TheVariants as kind
+use Rattle.solve_match.specs.Verdict.{table_check, count_check, told_column, told_match}
 
 module _ (place : ℕ) where
   pub table-stop : (same : Bool) → same ≡ false → table_check place same ≡ shapes_disagree place
@@ -29,8 +30,11 @@ module _ (place : ℕ) where
     pub count-pass : refuses (count_check place need count) ≡ false → count ≡ need
     count-pass e = column-passes place need count e
 
-pub columns-pass : (m : Match) → refuses (told_match m) ≡ false → m ≡ kind.Same
-columns-pass kind.Same e = refl
-columns-pass (kind.Missing column) e = cc
-columns-pass (kind.Extra column) e = cc
-columns-pass (kind.Parent column) e = cc
+pub column-refuses : (e : ColumnError) → refuses (told_column e) ≡ true
+column-refuses (kind.Missing column) = refl
+column-refuses (kind.Extra column) = refl
+column-refuses (kind.Parent column) = refl
+
+pub columns-pass : (m : Result Unit ColumnError) → refuses (told_match m) ≡ false → m ≡ Ok tt
+columns-pass (Ok w) e = refl
+columns-pass (Err x) e = absurd (false≢true (sym e ∙ column-refuses x))

@@ -3,17 +3,17 @@
 --     0 dims, 1 starts, 2 rows, 3 perm, 4 late, 5 order, 6 parents, 7 l_starts, 8 l_rows, 9 l_offsets, 10 l_values, 11 diag, 12 d, 13 x
 -- and where a column of the factor is wrong that column, by new number, and what is wrong with it. What disagrees of 0 to 4, 7, 8 and
 -- 10 alone has its own number, 1 to 9. Assumes nothing.
-use Rattle.std.specs.Prelude.{ℕ, Bool, cond, List, [], ◌∷◌, length}
+use Rattle.std.specs.Prelude.{ℕ, Bool, cond, List, [], ◌∷◌, length, Result}
 use Rattle.graph.specs.Order.{moved}
-use Rattle.refusal.specs.Refusal.{Told, tells, done, shapes_disagree, verdict}
+use Rattle.refusal.specs.Refusal.{Told, tells, done, told_by, shapes_disagree, verdict}
 use Rattle.refusal.specs.Check.{area_check}
 use Rattle.order.specs.Order.{sizes_of}
 use Rattle.scalars.specs.Scalars.{scalar_count}
 use Rattle.scalars.specs.Bodies.{offsets}
 use Rattle.layout.specs.Layout.{units_need}
 use Rattle.factor_match.specs.Match.{match_of}
-use Rattle.factor_match.specs.declared.cores.Match.{Match}
-use Rattle.factor_match.specs.declared.cores.Match.TheVariants as kind
+use Rattle.factor_match.specs.declared.cores.ColumnError.{ColumnError}
+use Rattle.factor_match.specs.declared.cores.ColumnError.TheVariants as kind
 use Rattle.factor_order.specs.Same.{same_list}
 
 -- a table passes that is the one it must be
@@ -29,11 +29,13 @@ abbrev pub bad_column : (place column kind : ℕ) → Told
 bad_column place column kind = tells 12 (place ∷ column ∷ kind ∷ []) []
 
 -- the columns pass that have the rows of the path rule and the parents of the elimination tree
-abbrev pub told_match : Match → Told
-told_match kind.Same = done
-told_match (kind.Missing column) = bad_column 8 column 0
-told_match (kind.Extra column) = bad_column 8 column 1
-told_match (kind.Parent column) = bad_column 6 column 2
+abbrev pub told_column : ColumnError → Told
+told_column (kind.Missing column) = bad_column 8 column 0
+told_column (kind.Extra column) = bad_column 8 column 1
+told_column (kind.Parent column) = bad_column 6 column 2
+
+abbrev pub told_match : Result Unit ColumnError → Told
+told_match = told_by (λ w. done) told_column
 
 -- where L's bodies begin, and how many numbers the unit factors, d and the right side have
 abbrev pub shape_checks : (dims order l_starts l_rows l_offsets : List ℕ) → (diag d x : ℕ) → List Told

@@ -8,91 +8,60 @@ ghost use Rattle.tables.specs.Sound.{Sizes, Columns, PlanSound};
 ghost use Rattle.solve_match.specs.Verdict.{shape_checks, match_verdict};
 ghost use Rattle.solve_match.specs.Outcome.{told_matched};
 
-use factor_match::cores::{Match, first_wrong};
+use crate::MatchError;
+use factor_match::cores::first_wrong;
 use factor_order::cores::{offsets_are, order_is};
 use factor_tables::cores::{scalars, unit_numbers};
-use refusal::Worked;
-
-// What a factor and a right side are to a system.
-#[derive(Clone, Copy)]
-pub enum Matched {
-    // The factor's tables are those of the system's own plan, and each list has its length.
-    Same(Worked),
-    // 12: a slice of the solve's call, counted from 0, is not what the system has there.
-    Mismatch { place: usize },
-    // 12: the first wrong column of the factor lacks a row.
-    Missing { column: usize },
-    // 12: it lacks none, and lists a row too many.
-    Extra { column: usize },
-    // 12: its rows are right, and its parent is not.
-    Parent { column: usize },
-}
+use solve_checks::{Factor, System};
 
 // The first of them, in the order of the call. The factor's numbers and the right side are tested by their counts alone.
-//     starts, rows                 A's tables, by old number
-//     order                        the permutation after the late move
-//     parents, l_starts, l_rows    the elimination tree and L's rows
-//     l_offsets                    where each body of L begins, and where the last one ends
-//     diag, d, x                   how many numbers the unit factors, the pivots and the right side have
-pub fn first_mismatch(
-    dims: &[u32],
-    starts: &[u32],
-    rows: &[u32],
-    perm: &[u32],
-    late: &[u32],
-    order: &[u32],
-    parents: &[u32],
-    l_starts: &[u32],
-    l_rows: &[u32],
-    l_offsets: &[u32],
-    diag: usize,
-    d: usize,
-    x: usize,
-) -> Matched
-    requires { PlanSound dims.now starts.now rows.now perm.now late.now × Columns past_diagonal (length dims.now) l_starts.now l_rows.now }
-    ensures { told_matched result ≡ match_verdict dims.now starts.now rows.now perm.now late.now order.now parents.now l_starts.now l_rows.now l_offsets.now diag d x }
+//     x   how many numbers the right side has
+#[tactic(auto, using(crate::proofs::TestLaws::match_laws))]
+pub fn first_mismatch(system: &System, factor: &Factor, x: usize) -> Result<(), MatchError>
+    requires { PlanSound system.now.dims.now system.now.starts.now system.now.rows.now system.now.perm.now system.now.late.now × Columns past_diagonal (length system.now.dims.now) factor.now.l_starts.now factor.now.l_rows.now }
+    ensures { told_matched result ≡ match_verdict system.now.dims.now system.now.starts.now system.now.rows.now system.now.perm.now system.now.late.now factor.now.order.now factor.now.parents.now factor.now.l_starts.now factor.now.l_rows.now factor.now.l_offsets.now (length factor.now.diag.now) (length factor.now.d.now) x }
 {
-    if !order_is(perm, late, order) {
-        return Matched::Mismatch { place: 5 };
+    if !order_is(system.perm, system.late, factor.order) {
+        return Err(MatchError::Mismatch { place: 5 });
     }
-    if parents.len() != dims.len() {
-        return Matched::Mismatch { place: 6 };
+    if factor.parents.len() != system.dims.len() {
+        return Err(MatchError::Mismatch { place: 6 });
     }
-    let columns = first_wrong(starts, rows, order, parents, l_starts, l_rows);
-    match columns {
-        Match::Same => first_shape(dims, order, l_starts, l_rows, l_offsets, diag, d, x),
-        Match::Missing { column } => Matched::Missing { column },
-        Match::Extra { column } => Matched::Extra { column },
-        Match::Parent { column } => Matched::Parent { column },
-    }
+    first_wrong(
+        system.starts,
+        system.rows,
+        factor.order,
+        factor.parents,
+        factor.l_starts,
+        factor.l_rows,
+    )?;
+    first_shape(system.dims, factor, x)
 }
 
 // The last of them: the offsets, and the counts of the numbers.
-pub fn first_shape(
-    dims: &[u32],
-    order: &[u32],
-    l_starts: &[u32],
-    l_rows: &[u32],
-    l_offsets: &[u32],
-    diag: usize,
-    d: usize,
-    x: usize,
-) -> Matched
-    requires { (length dims.now ≤ 4096) × Sizes dims.now × Permutes (length dims.now) order.now × Columns past_diagonal (length dims.now) l_starts.now l_rows.now }
-    ensures { told_matched result ≡ verdict (shape_checks dims.now order.now l_starts.now l_rows.now l_offsets.now diag d x) }
+#[tactic(auto, using(crate::proofs::TestLaws::shape_laws))]
+pub fn first_shape(dims: &[u32], factor: &Factor, x: usize) -> Result<(), MatchError>
+    requires { (length dims.now ≤ 4096) × Sizes dims.now × Permutes (length dims.now) factor.now.order.now × Columns past_diagonal (length dims.now) factor.now.l_starts.now factor.now.l_rows.now }
+    ensures { told_matched result ≡ verdict (shape_checks dims.now factor.now.order.now factor.now.l_starts.now factor.now.l_rows.now factor.now.l_offsets.now (length factor.now.diag.now) (length factor.now.d.now) x) }
 {
-    if !offsets_are(dims, order, l_starts, l_rows, l_offsets) {
-        return Matched::Mismatch { place: 9 };
+    if !offsets_are(
+        dims,
+        factor.order,
+        factor.l_starts,
+        factor.l_rows,
+        factor.l_offsets,
+    ) {
+        return Err(MatchError::Mismatch { place: 9 });
     }
-    if diag != unit_numbers(dims) {
-        return Matched::Mismatch { place: 11 };
+    if factor.diag.len() != unit_numbers(dims) {
+        return Err(MatchError::Mismatch { place: 11 });
     }
     let all = scalars(dims);
-    if d != all {
-        return Matched::Mismatch { place: 12 };
+    if factor.d.len() != all {
+        return Err(MatchError::Mismatch { place: 12 });
     }
     if x != all {
-        return Matched::Mismatch { place: 13 };
+        return Err(MatchError::Mismatch { place: 13 });
     }
-    Matched::Same(Worked {})
+    Ok(())
 }

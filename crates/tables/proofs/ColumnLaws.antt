@@ -1,5 +1,5 @@
 -- A search or a sum over all places of a row table is one column after the other, since each place of column j has j as its column. Assumes nothing.
-use Rattle.std.specs.Prelude.{◌≡◌, ℕ, zero, suc, ◌+◌, ◌-◌, ◌<◌, ◌≤◌, Bool, true, false, leb, ◌⊎◌, List, Some, None}
+use Rattle.std.specs.Prelude.{◌≡◌, ℕ, zero, suc, ◌+◌, ◌-◌, ◌<◌, ◌≤◌, Bool, true, false, leb, ◌⊎◌, List, Option, Some, None, is_some}
 use Prim.Native.Nat.{zero-le}
 use mathlib.Core.Path.{◌∙◌}
 use native.Mathlib.Numerals.{add-one}
@@ -10,8 +10,8 @@ use borrow.Author.Tests.{le-leb, lt-leb}
 use Rattle.tables.specs.Search.{fault, sum}
 use Rattle.tables.specs.Verdict.{at, column_of}
 use Rattle.tables.specs.Sound.{Ordered}
-use Rattle.tables.proofs.SearchLaws.{lt-or-ge, first-at, sum_same, sum-split, Summed}
-use Rattle.tables.proofs.FaultLaws.{fault-here, fault-none}
+use Rattle.tables.proofs.SearchLaws.{lt-or-ge, first-at, first-ge, first-before, first-fails, sum_same, sum-split, Summed}
+use Rattle.tables.proofs.FaultLaws.{fault-here, fault-none, fault-some, fault-clear}
 
 module _ {starts : List ℕ} {n m : ℕ} (o : Ordered starts n m) where
   rises_by : (d i j : ℕ) → i + d ≡ j → j ≤ n → at starts i ≤ at starts j
@@ -44,7 +44,7 @@ module _ {starts : List ℕ} {n m : ℕ} (o : Ordered starts n m) where
         in_some k (test (column_of starts n k) k ≡ true) l (λ i h lo hi. rw (column-is i k h lo hi) (each i h lo hi))
 
     -- the columns before j pass, and so do the places of j before p, where it fails
-    pub column-stops : (j p : ℕ) → j < n → at starts j ≤ p → p < at starts (j + 1) → ((i k : ℕ) → i < j → at starts i ≤ k → k < at starts (i + 1) → test i k ≡ true) → ((k : ℕ) → at starts j ≤ k → k < p → test j k ≡ true) → test j p ≡ false →
+    column-stops : (j p : ℕ) → j < n → at starts j ≤ p → p < at starts (j + 1) → ((i k : ℕ) → i < j → at starts i ≤ k → k < at starts (i + 1) → test i k ≡ true) → ((k : ℕ) → at starts j ≤ k → k < p → test j k ≡ true) → test j p ≡ false →
         Some p ≡ fault (λ k. test (column_of starts n k) k) 0 m
     column-stops j p l lo hi columns places fails =
         fault-here (λ k. test (column_of starts n k) k) 0 p m zero-le inside (λ k _ h. passes-here k (omega (arith, inside)) (λ i a b c. before k h i a b c)) (rw (column-is j p l lo hi) fails)
@@ -59,9 +59,18 @@ module _ {starts : List ℕ} {n m : ℕ} (o : Ordered starts n m) where
             here (inl e) = rw (← e) (places k (rw e b) h)
             here (inr s) = absurd (omega (arith, starts-rise (j + 1) i (omega arith) (omega arith)))
 
-    -- each column passes
-    pub columns-pass : ((i k : ℕ) → i < n → at starts i ≤ k → k < at starts (i + 1) → test i k ≡ true) → None ≡ fault (λ k. test (column_of starts n k) k) 0 m
-    columns-pass each = fault-none (λ k. test (column_of starts n k) k) 0 m (λ k _ h. passes-here k h (λ i a b c. each i k a b c))
+    -- what is found in a column, where those before it have none
+    pub column-found : (j : ℕ) (r : Option ℕ) → j < n → ((i : ℕ) → i < j → None ≡ fault (test i) (at starts i) (at starts (i + 1))) → r ≡ fault (test j) (at starts j) (at starts (j + 1)) → is_some r ≡ true →
+        r ≡ fault (λ k. test (column_of starts n k) k) 0 m
+    column-found j None l before e s = cc
+    column-found j (Some p) l before e s =
+        let is = fault-some (test j) (at starts j) (at starts (j + 1)) p e in
+        column-stops j p l (rw is.0 (first-ge (test j) (at starts j) (at starts (j + 1)))) is.1 (λ i k h lo hi. fault-clear (test i) (at starts i) (at starts (i + 1)) (before i h) k lo hi) (λ k lo h. first-before (test j) (at starts j) (at starts (j + 1)) k lo (rw (← is.0) h))
+        (rw is.0 (first-fails (test j) (at starts j) (at starts (j + 1)) (o.rising j l) (rw (← is.0) is.1)))
+
+    -- none is found in any
+    pub none-found : ((i : ℕ) → i < n → None ≡ fault (test i) (at starts i) (at starts (i + 1))) → None ≡ fault (λ k. test (column_of starts n k) k) 0 m
+    none-found each = fault-none (λ k. test (column_of starts n k) k) 0 m (λ k _ h. passes-here k h (λ i a lo hi. fault-clear (test i) (at starts i) (at starts (i + 1)) (each i a) k lo hi))
 
   -- ---- a sum whose term at a place is that of its column
   module _ (f : ℕ → ℕ → ℕ) (j s x : ℕ) (l : j < n) (e : x ≡ sum (f j) (at starts j) (at starts (j + 1))) (w : Summed (λ k. f (column_of starts n k) k) 0 m (at starts j) s) where

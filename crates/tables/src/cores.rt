@@ -9,7 +9,8 @@ ghost use Rattle.tables.specs.Sound.{Marked};
 // The parent of a root.
 pub const NONE: u32 = 4_294_967_295;
 
-// A u32 as a usize: a call asks nothing, where a cast of an element asks that it fits.
+// A u32 as a usize.
+// Kept: `usize` has no `From<u32>`, and a call asks nothing, where a cast of an element asks that it fits.
 pub fn wide(x: u32) -> usize
     ensures { result ≡ x }
 {

@@ -1,17 +1,17 @@
 -- A product of blocks by its entries. Assumes nothing.
 use Rattle.std.specs.Prelude.{◌≡◌, ℕ, zero, suc, ◌+◌, ◌*◌, ◌<◌, List, map, length, get_or}
-use mathlib.Core.Path.{sym, ap, subst, ◌∙◌}
+use mathlib.Core.Path.{sym, ap, ◌∙◌}
 use native.Mathlib.Nat.{suc-mul, mul_comm}
 use native.Mathlib.Omega.{arith}
 use lib.Ieee.{Float, nan}
-use lib.ListN.{length-set, length-append, length-map, get_or-append, get_or-map}
+use lib.ListN.{length-append, length-map, get_or-append, get_or-map}
 use lib.Seq.{get_or-append-add}
 use Rattle.graph.specs.Sets.{from, gather}
 use Rattle.buckets.proofs.Lists.{get_or_any}
 use Rattle.order.proofs.Laws.{length_from, get_or-from}
-use Rattle.scalar.specs.Block.{at, put}
 use Rattle.machine.specs.Machine.{product_entry, mat_product}
-use Rattle.tiled_product.proofs.EntryLaws.{at-put, by_entries}
+use Rattle.tiled_product.specs.Tiled.{each_entry}
+use Rattle.tiled_product.proofs.EntryLaws.{by_entries, every, columns_length}
 
 -- ---- columns of h entries e, one after the other
 
@@ -66,13 +66,8 @@ module _ (h m w : ℕ) (a b : List Float) where
   unfolding mat_product
   product_at r c i k = let z : 0 + c ≡ c = omega arith in cols-at h (product_entry h m a b) 0 w r c k i ∙ ap (product_entry h m a b r) z
 
--- one entry
-pub one_entry : (m : ℕ) (a b q : List Float) (x : Float) → length q ≡ 1 * 1 → x ≡ product_entry 1 m a b 0 0 → put q 1 0 0 x ≡ mat_product 1 m 1 a b
-one_entry m a b q x long e =
-    by_entries 1 1 (put q 1 0 0 x) (mat_product 1 m 1 a b) (length-set q (0 + 0 * 1) x ∙ long) (product-length 1 m 1 a b)
-    (λ r c hr hc.
-    let zr : 0 ≡ r = omega arith in
-    let zc : 0 ≡ c = omega arith in
-    subst (λ (r : ℕ). at (put q 1 0 0 x) 1 r c ≡ at (mat_product 1 m 1 a b) 1 r c) zr
-    (subst (λ (c : ℕ). at (put q 1 0 0 x) 1 0 c ≡ at (mat_product 1 m 1 a b) 1 0 c) zc
-    (at-put 1 1 q long 0 0 x (omega arith) (omega arith) ∙ e ∙ sym (product_at 1 m 1 a b 0 0 (omega arith) (omega arith)))))
+  -- each entry by itself, whatever stood there
+  pub all_entries : (q : List Float) → length q ≡ h * w → each_entry h w (λ r c x. product_entry h m a b r c) q ≡ whole
+  all_entries q long =
+      by_entries h w (each_entry h w (λ r c x. product_entry h m a b r c) q) whole (columns_length h w (λ r c x. product_entry h m a b r c) w q ∙ long) product-length
+      (λ r c hr hc. every h w (λ r c x. product_entry h m a b r c) q long r c hr hc ∙ sym (product_at r c hr hc))

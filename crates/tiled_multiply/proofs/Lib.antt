@@ -1,3 +1,2 @@
 -- What belongs to no one function.
 pub mod GridLaws  -- a product of blocks by its entries
-pub mod FillLaws  -- tiles of three columns

@@ -2,14 +2,10 @@
 -- so the loops may be in any order. Assumes nothing.
 use Rattle.std.specs.Prelude.{◌≡◌, ℕ, ◌+◌, ◌<◌, ◌≤◌, List, length, ◌≢◌, slice_index_or}
 use Rattle.std.specs.Prelude.{Float}
-use Rattle.std.specs.Float.{nan, binary64}
-use Rattle.std.specs.Float.Ieee.{mul}
+use Rattle.std.specs.Float.{nan}
 use Rattle.scalar.specs.Loop.{steps}
 use Rattle.scalar.specs.Block.{at, put, lose}
 use Rattle.kernel_diag_right.specs.DiagRight.{scale_column}
-use Rattle.tiled_product.specs.declared.cores.Three.{Three}
-use Rattle.tiled_product.specs.declared.cores.Nine.{Nine}
-use Rattle.tiled_product.specs.declared.cores.Twelve.{Twelve}
 
 -- B diag(d), B of n rows and k columns: column t is multiplied by d(t)
 unfoldable pub times_diag : ℕ → ℕ → List Float → List Float → List Float
@@ -58,72 +54,40 @@ pub record Onward (n j next : ℕ) : Type 0 where
   pub near : next ≤ j + 3
   pub there : next < n → next ≡ j + 3
 
--- ---- three entries of a row, in the columns j0, j1 and j2, which need not differ; of three rows and of four, from row i on
+-- ---- some entries of a column, held in locals
 
-abbrev pub three : Float → Float → Float → Three
-three x y z = record { c0 = x; c1 = y; c2 = z }
+-- the first n of s are those of e
+abbrev pub Holds : (n : ℕ) → (e : ℕ → Float) → List Float → Type 0
+Holds n e s = (q : ℕ) → q < n → slice_index_or s q nan ≡ e q
 
-abbrev pub nine : Three → Three → Three → Nine
-nine x y z = record { r0 = x; r1 = y; r2 = z }
+-- y with n of s in column j, from row i on: neighbours are stored one after the other
+abbrev pub put_down : (m j i n : ℕ) → (s : List Float) → List Float → List Float
+put_down m j i n s = steps (λ q x. put x m (i + q) j (slice_index_or s q nan)) n
 
-abbrev pub twelve : Nine → Three → Twelve
-twelve x y = record { top = x; r3 = y }
+-- ---- a product of two blocks by its entries
 
--- as they stand in Y
-module _ (m : ℕ) (y : List Float) (j0 j1 j2 : ℕ) where
-  abbrev pub three_at : ℕ → Three
-  three_at i = three (at y m i j0) (at y m i j1) (at y m i j2)
+-- how many rows and columns it has, and turns; where an entry starts from, what its row and its column meet at a turn, and what becomes of it
+pub record Formula : Type 0 where
+  pub rows : ℕ
+  pub columns : ℕ
+  pub turns : ℕ
+  pub first : (r c : ℕ) → Float → Float
+  pub left : (r t : ℕ) → Float
+  pub right : (c t : ℕ) → Float
+  pub turn : (s a b : Float) → Float
 
-  abbrev pub nine_at : ℕ → Nine
-  nine_at i = nine (three_at i) (three_at (i + 1)) (three_at (i + 2))
+-- the entry (r, c) after t turns, where x stood there
+abbrev pub after_turns : Formula → (t r c : ℕ) → Float → Float
+after_turns f t r c x = steps (λ t s. f.turn s (f.left r t) (f.right c t)) t (f.first r c x)
 
-  abbrev pub twelve_at : ℕ → Twelve
-  twelve_at i = twelve (nine_at i) (three_at (i + 3))
+-- and after all
+abbrev pub worked : Formula → (r c : ℕ) → Float → Float
+worked f = after_turns f f.turns
 
--- those of column t of B
-abbrev pub down_at : (n : ℕ) → (b : List Float) → (j0 j1 j2 t : ℕ) → Three
-down_at n b j0 j1 j2 t = three (at b n j0 t) (at b n j1 t) (at b n j2 t)
+-- that entry where y stood there, of m rows
+abbrev pub worked_on : Formula → (m : ℕ) → (y : List Float) → (r c : ℕ) → Float
+worked_on f m y r c = worked f r c (at y m r c)
 
--- what they lose by column t of A and of B
-abbrev pub lose_three : Float → Three → Three → Three
-lose_three a b s = three (lose s.c0 a b.c0) (lose s.c1 a b.c1) (lose s.c2 a b.c2)
-
-module _ (m : ℕ) (a : List Float) (i t : ℕ) (b : Three) where
-  abbrev pub lose_nine : Nine → Nine
-  lose_nine s = nine (lose_three (at a m i t) b s.r0) (lose_three (at a m (i + 1) t) b s.r1) (lose_three (at a m (i + 2) t) b s.r2)
-
-  abbrev pub lose_twelve : Twelve → Twelve
-  lose_twelve s = twelve (lose_nine s.top) (lose_three (at a m (i + 3) t) b s.r3)
-
--- what they become
-module _ (m n k : ℕ) (a b : List Float) (j0 j1 j2 i : ℕ) where
-  abbrev pub lost_three : Three → Three
-  lost_three = steps (λ t. lose_three (at a m i t) (down_at n b j0 j1 j2 t)) k
-
-  abbrev pub lost_nine : Nine → Nine
-  lost_nine = steps (λ t. lose_nine m a i t (down_at n b j0 j1 j2 t)) k
-
-  abbrev pub lost_twelve : Twelve → Twelve
-  lost_twelve = steps (λ t. lose_twelve m a i t (down_at n b j0 j1 j2 t)) k
-
--- Y with them, column by column: neighbours are stored one after the other
-module _ (m j i : ℕ) where
-  abbrev pub put_down3 : (x y z : Float) → List Float → List Float
-  put_down3 x y z l = put (put (put l m i j x) m (i + 1) j y) m (i + 2) j z
-
-  abbrev pub put_down4 : (x y z v : Float) → List Float → List Float
-  put_down4 x y z v l = put (put_down3 x y z l) m (i + 3) j v
-
-module _ (m j0 j1 j2 i : ℕ) where
-  abbrev pub put_three : Three → List Float → List Float
-  put_three s y = put (put (put y m i j0 s.c0) m i j1 s.c1) m i j2 s.c2
-
-  abbrev pub put_nine : Nine → List Float → List Float
-  put_nine s y =
-      put_down3 m j2 i s.r0.c2 s.r1.c2 s.r2.c2 (put_down3 m j1 i s.r0.c1 s.r1.c1 s.r2.c1 (put_down3 m j0 i s.r0.c0 s.r1.c0 s.r2.c0 y))
-
-  abbrev pub put_twelve : Twelve → List Float → List Float
-  put_twelve s y =
-      put_down4 m j2 i s.top.r0.c2 s.top.r1.c2 s.top.r2.c2 s.r3.c2
-      (put_down4 m j1 i s.top.r0.c1 s.top.r1.c1 s.top.r2.c1 s.r3.c1
-      (put_down4 m j0 i s.top.r0.c0 s.top.r1.c0 s.top.r2.c0 s.r3.c0 y))
+-- each entry x of y becomes g r c x, column by column
+abbrev pub each_entry : (m n : ℕ) → (g : (r c : ℕ) → Float → Float) → List Float → List Float
+each_entry m n g y = steps (λ c. steps (λ r x. put x m r c (g r c (at y m r c))) m) n y

@@ -2,3 +2,5 @@
 #![tactic(auto)]
 
 pub mod cores;
+pub mod rows;
+pub mod tiles;

@@ -1,27 +1,30 @@
 -- Tiles of rows.
---     one-wrote, three-, four-wrote      rows written into a column, one after the other
+--     lost_none, losing_more, ..         what the rows of a column lose, held in locals
+--     rows-wrote                         and written
 --     held_none, forward-more, -all      how far a tile is, from its first column to its last
 --     backward-more, -all                and back
 --     above_none, -more, -all            the rows done so far, until all are
 -- Assumes nothing.
-use Rattle.std.specs.Prelude.{◌≡◌, ℕ, ◌+◌, ◌-◌, ◌*◌, ◌<◌, ◌≤◌, Bool, true, false, List, length, get_or}
+use Rattle.std.specs.Prelude.{◌≡◌, ℕ, zero, suc, ◌+◌, ◌-◌, ◌*◌, ◌<◌, ◌≤◌, Bool, true, false, List, length, get_or, set}
 use mathlib.Core.Path.{refl, sym, ap, subst, ◌∙◌}
 use native.Mathlib.Decide.{ℕ_discrete, dec_lt}
+use native.Mathlib.Nat.{le_antisymm}
+use native.Mathlib.Numerals.{add-one}
 use native.Mathlib.Omega.{arith}
 use lib.Ieee.{Float, nan, binary64, mul}
 use lib.ListN.{length-set}
+use Rattle.scalar.specs.Loop.{steps}
 use Rattle.scalar.specs.Block.{at, put, lose}
-use Rattle.scalar.proofs.Laws.{steps-same}
+use Rattle.scalar.proofs.Laws.{steps-same, steps-more}
 use Rattle.kernel_diag.specs.Diag.{inverse}
 use Rattle.kernel_right.specs.Right.{lower_right_solve}
 use Rattle.kernel_right_transpose.specs.RightTranspose.{lower_transpose_rightsolve}
 use Rattle.kernel_diag_right.specs.DiagRight.{diag_right_matsolve}
 use Rattle.dense_solve_right.specs.SolveRight.{ldlt_right_matsolve}
-use Rattle.tiled_product.specs.Tiled.{put_down3}
-use Rattle.tiled_product.proofs.EntryLaws.{steps-part, at-put, at_other, by_entries}
-use Rattle.tiled_right.specs.declared.cores.Three.{Three}
-use Rattle.tiled_right.specs.declared.cores.Four.{Four}
-use Rattle.tiled_right.specs.TiledRight.{RowsSolved, tied, lost, three_at, four_at, lose_three, lose_four, lost_three, lost_four, put_three, put_four}
+use Rattle.tiled_product.specs.Tiled.{Holds, put_down}
+use Rattle.tiled_product.proofs.EntryLaws.{at-put, at_other, by_entries}
+use Rattle.tiled_product.proofs.TileLaws.{Between, between_none, between_more, between_all}
+use Rattle.tiled_right.specs.TiledRight.{RowsSolved, tied, lost}
 use Rattle.tiled_right.proofs.Substitution.{behind, less-same, forward-length, forward-at, scaled-length, scaled_at, backward-length, backward-at}
 
 -- ---- rows written into a column
@@ -54,51 +57,51 @@ module _ (m n : ℕ) (e : ℕ → Float) (j low : ℕ) (hj : j < n) (x : List Fl
           let q : low + count ≡ r = omega arith in
           subst (λ (r : ℕ). at (put y m (low + count) j (e (low + count))) m r j ≡ e r) q (at-put m n y (w.long ∙ long) (low + count) j (e (low + count)) fits hj)
 
-  wrote_one : low + 1 ≤ m → Wrote m e j low 1 x (put x m low j (e low))
-  wrote_one fits = let z : low + 0 ≡ low = omega arith in rw z at (wrote-more 0 x (omega arith) wrote_none)
+  -- and as many as s holds
+  written : (count : ℕ) (s : List Float) → low + count ≤ m → Holds count (λ q. e (low + q)) s → Wrote m e j low count x (put_down m j low count s x)
+  unfolding steps
+  written zero s fits held = wrote_none
+  written (suc count) s fits held =
+      rw (held count (omega arith)) (rw add-one at (wrote-more count (put_down m j low count s x) (omega arith) (written count s (omega arith) (λ q h. held q (omega arith)))))
 
-  wrote-three : low + 3 ≤ m → Wrote m e j low 3 x (put_down3 m j low (e low) (e (low + 1)) (e (low + 2)) x)
-  wrote-three fits = wrote-more 2 _ (omega arith) (wrote-more 1 _ (omega arith) (wrote_one (omega arith)))
+-- those that are held in locals, each by itself
+module _ (m n : ℕ) (l x : List Float) (j first : ℕ) (after : Bool) (i : ℕ) where
+  -- they, less what they lose by v columns
+  module _ (s : List Float) where
+    abbrev pub Lost : (v count : ℕ) → List Float → Type 0
+    Lost v count = Holds count (λ q. lost m n l x j first after (i + q) v (get_or s q nan))
 
--- those that are held in locals, where row r starts from `start r`
-module _ (m n : ℕ) (l x : List Float) (j first : ℕ) (after : Bool) (i count : ℕ) where
-  -- each by itself: that of row r is p's
-  of_three : (p : Three → Float) (r : ℕ) → ((t : ℕ) (by : Float) (s : Three) → p (lose_three m x i t by s) ≡ lose (p s) (at x m r t) by)
-      → (s : Three) → p (lost_three m n l x j first after i count s) ≡ lost m n l x j first after r count (p s)
-  of_three p r h = steps-part p _ _ (λ v. h (first + v) (tied n l j (first + v) after)) count
+    pub lost_none : (count : ℕ) → Lost 0 count s
+    unfolding steps
+    lost_none count q h = refl
 
-  of_four : (p : Four → Float) (r : ℕ) → ((t : ℕ) (by : Float) (s : Four) → p (lose_four m x i t by s) ≡ lose (p s) (at x m r t) by)
-      → (s : Four) → p (lost_four m n l x j first after i count s) ≡ lost m n l x j first after r count (p s)
-  of_four p r h = steps-part p _ _ (λ v. h (first + v) (tied n l j (first + v) after)) count
+    -- and by the next, the first q of them
+    abbrev pub Losing : (v q count : ℕ) → List Float → Type 0
+    Losing v = Between (λ q. lost m n l x j first after (i + q) v (get_or s q nan)) (λ q. lost m n l x j first after (i + q) (v + 1) (get_or s q nan))
 
-  module _ (start : ℕ → Float) (hj : j < n) (long : length x ≡ m * n) where
-    -- what row r becomes
-    abbrev became : ℕ → Float
-    became r = lost m n l x j first after r count (start r)
+    pub losing_none : (v count : ℕ) (z : List Float) → Lost v count z → Losing v 0 count z
+    losing_none v count z held = between_none _ _ count z held
 
-    pub one-wrote : (y : List Float) → i + 1 ≤ m → y ≡ put x m i j (became i) → Wrote m became j i 1 x y
-    one-wrote y fits w = rw w (wrote_one m n became j i hj x long fits)
+    pub losing_more : (v q count : ℕ) (z : List Float) (y : Float) → q < count → length z ≡ count → Losing v q count z
+        → y ≡ lose (get_or z q nan) (at x m (i + q) (first + v)) (tied n l j (first + v) after) → Losing v (q + 1) count (set z q y)
+    losing_more v q count z y fits long held e =
+        between_more _ _ q count z y fits long held
+        (λ was. e ∙ steps-more (λ v s. lose s (at x m (i + q) (first + v)) (tied n l j (first + v) after)) v (get_or s q nan) (get_or z q nan) was)
 
-    pub three-wrote : (y : List Float) → i + 3 ≤ m → y ≡ put_three m j i (lost_three m n l x j first after i count (three_at start i)) x → Wrote m became j i 3 x y
-    three-wrote y fits w =
-        rw (
-          w,
-          of_three (λ s. s.r0) i (λ t by s. refl) (three_at start i),
-          of_three (λ s. s.r1) (i + 1) (λ t by s. refl) (three_at start i),
-          of_three (λ s. s.r2) (i + 2) (λ t by s. refl) (three_at start i),
-        )
-        (wrote-three m n became j i hj x long fits)
+    pub losing_all : (v q count : ℕ) (z : List Float) → count ≤ q → Losing v q count z → Lost (v + 1) count z
+    losing_all v q count z lo held = between_all _ _ q count z lo held
 
-    pub four-wrote : (y : List Float) → i + 4 ≤ m → y ≡ put_four m j i (lost_four m n l x j first after i count (four_at start i)) x → Wrote m became j i 4 x y
-    four-wrote y fits w =
-        rw (
-          w,
-          of_four (λ s. s.top.r0) i (λ t by s. refl) (four_at start i),
-          of_four (λ s. s.top.r1) (i + 1) (λ t by s. refl) (four_at start i),
-          of_four (λ s. s.top.r2) (i + 2) (λ t by s. refl) (four_at start i),
-          of_four (λ s. s.r3) (i + 3) (λ t by s. refl) (four_at start i),
-        )
-        (wrote-more m n became j i hj x long 3 _ (omega arith) (wrote-three m n became j i hj x long (omega arith)))
+    pub lost_all : (v w count : ℕ) (z : List Float) → v ≤ w → w ≤ v → Lost v count z → Lost w count z
+    lost_all v w count z lo hi = subst (λ (v : ℕ). Lost v count z) (le_antisymm lo hi)
+
+  -- where row r starts from `start r`, and loses by `count` columns
+  module _ (count : ℕ) (start : ℕ → Float) (hj : j < n) (long : length x ≡ m * n) where
+    pub rows-wrote : (tall : ℕ) (s z y : List Float) → i + tall ≤ m → Holds tall (λ q. start (i + q)) s → Lost s count tall z → y ≡ put_down m j i tall z x
+        → Wrote m (λ r. lost m n l x j first after r count (start r)) j i tall x y
+    rows-wrote tall s z y fits from held w =
+        rw w
+        (written m n (λ r. lost m n l x j first after r count (start r)) j i hj x long tall z fits
+        (λ q h. held q h ∙ ap (lost m n l x j first after (i + q) count) (from q h)))
 
 -- ---- how far a tile is: its columns below a hold y's entries, and those from b on w's; the rows above it are as they were in x₀
 

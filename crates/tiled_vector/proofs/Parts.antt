@@ -1,34 +1,43 @@
 -- A part of a vector, `size` numbers from `off` on, whose numbers lose their sums one after the other.
---     three-sums, four-sums                       sums gathered side by side are those gathered by themselves
---     part_none, part-one, -three, -four, -all    how far the part is
+--     sums_none, -more, -all               sums gathered side by side are those gathered by themselves
+--     held-less                            and lost
+--     part_none, -more, -all               how far the part is
 -- Assumes nothing.
-use Rattle.std.specs.Prelude.{◌≡◌, ℕ, zero, suc, ◌+◌, ◌<◌, ◌≤◌, ◌⊎◌, List, ◌++◌, length, take, drop}
+use Rattle.std.specs.Prelude.{◌≡◌, ℕ, zero, suc, ◌+◌, ◌≤◌, ◌⊎◌, List, ◌++◌, length, take, drop, get_or, replicate}
 use mathlib.Core.Path.{refl, sym, ap, subst, ◌∙◌}
+use native.Mathlib.Nat.{le_antisymm}
 use native.Mathlib.Omega.{arith}
-use lib.Ieee.{Float}
+use lib.Ieee.{Float, nan}
 use lib.ListN.{length-set, take-append-drop}
 use lib.Seq.{take_at, drop_at, length-take-le}
+use Rattle.std.proofs.lemmas.List.{get_or-replicate}
 use Rattle.scalar.specs.Loop.{steps}
 use Rattle.scalar.specs.Block.{gain, within}
 use Rattle.scalar.specs.Scalar.{nought}
-use Rattle.scalar.proofs.Laws.{steps-more}
-use Rattle.tiled_right.specs.TiledRight.{three_at, four_at}
+use Rattle.scalar.proofs.Laws.{steps-more, steps-same}
+use Rattle.tiled_product.specs.Tiled.{Holds}
 use Rattle.block_product.specs.Working.{slot}
 use Rattle.block_product.proofs.SlotLaws.{slot-length, slot-other, within-length}
-use Rattle.tiled_vector.specs.TiledVector.{gain_three, gain_four, less, less_three, less_four, each_less}
+use Rattle.tiled_vector.specs.TiledVector.{less, less_held, less_from, each_less}
 
 -- ---- sums side by side: at turn u that of number q gains e u q times b u
 
 module _ (e : ℕ → ℕ → Float) (b : ℕ → Float) (i : ℕ) where
-  pub three-sums : (n : ℕ) → steps (λ u. gain_three (three_at (e u) i) (b u)) n (three_at (λ q. nought) i) ≡ three_at (λ q. steps (λ u s. gain s (e u q) (b u)) n nought) i
-  unfolding steps
-  three-sums zero = refl
-  three-sums (suc n) = ap (gain_three (three_at (e n) i) (b n)) (three-sums n)
+  abbrev pub Sums : (u n : ℕ) → List Float → Type 0
+  Sums u n = Holds n (λ q. steps (λ u s. gain s (e u (i + q)) (b u)) u nought)
 
-  pub four-sums : (n : ℕ) → steps (λ u. gain_four (four_at (e u) i) (b u)) n (four_at (λ q. nought) i) ≡ four_at (λ q. steps (λ u s. gain s (e u q) (b u)) n nought) i
+  pub sums_none : (n : ℕ) (s : List Float) → s ≡ replicate n nought → Sums 0 n s
   unfolding steps
-  four-sums zero = refl
-  four-sums (suc n) = ap (gain_four (four_at (e n) i) (b n)) (four-sums n)
+  sums_none n s from q h = rw from (get_or-replicate n q nought nan h)
+
+  pub sums_more : (u n : ℕ) (s a z : List Float) (by : Float) → Sums u n s → Holds n (λ q. e u (i + q)) a → by ≡ b u → Holds n (λ q. gain (get_or s q nan) (get_or a q nan) by) z
+      → Sums (u + 1) n z
+  sums_more u n s a z by held from is turned q h =
+      turned q h ∙ ap (λ (x : Float). gain (get_or s q nan) x by) (from q h) ∙ ap (gain (get_or s q nan) (e u (i + q))) is
+      ∙ steps-more (λ u s. gain s (e u (i + q)) (b u)) u nought (get_or s q nan) (held q h)
+
+  pub sums_all : (u w n : ℕ) (s : List Float) → u ≤ w → w ≤ u → Sums u n s → Sums w n s
+  sums_all u w n s lo hi = subst (λ (u : ℕ). Sums u n s) (le_antisymm lo hi)
 
 -- ---- losses
 
@@ -41,16 +50,17 @@ module _ (sum : ℕ → Float) where
   one_less : (r : ℕ) (z : List Float) → less r (sum r) (each_less sum r z) ≡ each_less sum (r + 1) z
   one_less r z = steps-more (λ i. less i (sum i)) r z _ refl
 
-  three-less : (r : ℕ) (z : List Float) → less_three r (three_at sum r) (each_less sum r z) ≡ each_less sum (r + 3) z
-  three-less r z =
-      let two : r + 1 + 1 ≡ r + 2 = omega arith in
-      let three : r + 2 + 1 ≡ r + 3 = omega arith in
-      ap (λ (l : List Float). less (r + 2) (sum (r + 2)) (less (r + 1) (sum (r + 1)) l)) (one_less r z)
-      ∙ ap (less (r + 2) (sum (r + 2))) (rw two at (one_less (r + 1) z))
-      ∙ (rw three at (one_less (r + 2) z))
+  -- n from r on
+  more-less : (r n : ℕ) (z : List Float) → less_from sum r n (each_less sum r z) ≡ each_less sum (r + n) z
+  unfolding steps
+  more-less r zero z = let e : r + 0 ≡ r = omega arith in ap (λ (k : ℕ). each_less sum k z) (sym e)
+  more-less r (suc n) z =
+      let e : r + n + 1 ≡ r + suc n = omega arith in
+      ap (less (r + n) (sum (r + n))) (more-less r n z) ∙ (rw e at (one_less (r + n) z))
 
-  four-less : (r : ℕ) (z : List Float) → less_four r (four_at sum r) (each_less sum r z) ≡ each_less sum (r + 4) z
-  four-less r z = let four : r + 3 + 1 ≡ r + 4 = omega arith in ap (less (r + 3) (sum (r + 3))) (three-less r z) ∙ (rw four at (one_less (r + 3) z))
+  -- which s holds
+  pub held-less : (r n : ℕ) (s z : List Float) → Holds n (λ q. sum (r + q)) s → less_held r n s z ≡ less_from sum r n z
+  held-less r n s z held = steps-same (λ q. less (r + q) (get_or s q nan)) (λ q. less (r + q) (sum (r + q))) n (λ q x h. ap (λ (y : Float). less (r + q) y x) (held q h)) z
 
 -- ---- the part
 
@@ -93,14 +103,8 @@ module _ (off size : ℕ) (y : List Float) (fits : off + size ≤ length y) wher
         ∙ ap (λ (z : List Float). take off y ++ (z ++ drop size (drop off y))) (next (slot off size y))
 
     module _ (r : ℕ) (x x' : List Float) (e : Part r x) where
-      pub part-one : x' ≡ within off size (less r (sums (slot o n x) r)) x → Part (r + 1) x'
-      part-one = more (λ s. less r (s r)) r 1 (one_less sum r) x x' e
-
-      pub part-three : x' ≡ within off size (less_three r (three_at (sums (slot o n x)) r)) x → Part (r + 3) x'
-      part-three = more (λ s. less_three r (three_at s r)) r 3 (three-less sum r) x x' e
-
-      pub part-four : x' ≡ within off size (less_four r (four_at (sums (slot o n x)) r)) x → Part (r + 4) x'
-      part-four = more (λ s. less_four r (four_at s r)) r 4 (four-less sum r) x x' e
+      pub part_more : (k : ℕ) → x' ≡ within off size (less_from (sums (slot o n x)) r k) x → Part (r + k) x'
+      part_more k = more (λ s. less_from s r k) r k (more-less sum r k) x x' e
 
       -- it is as long as it was
       pub part_length : length x ≡ length y

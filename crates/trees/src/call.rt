@@ -1,9 +1,8 @@
 // Calls of the list on the same tables: read, made and judged. A turn has six words in front, after its kind: how many calls there are, and
 // the lengths of starts, rows, parents and the two lent buffers. A call has six words too: 1 for a tree or 2 for a walk, the
 // blocks or the block, the mark, and what is told; then the lent buffers afterwards.
-use crate::told::{Told, of_tree, of_walk};
-use word_list::cases::{BadList, Case};
-use word_list::entry::Entry;
+use crate::told::{of_tree, of_walk, says};
+use word_list::cases::{BadList, Case, kind};
 use word_list::lent::{listed, table};
 use word_list::room::{BLOCKS, held};
 use word_list::tally::Count;
@@ -12,13 +11,9 @@ const TREE: u32 = 1;
 
 // Reads the next turn and judges its calls; none is the word that ends the list.
 pub fn next() -> Result<Option<Case>, BadList> {
-    let Some(first) = u32::next() else {
-        return Err(BadList {});
-    };
-    let kind = first as usize;
-    if kind == 0 {
+    let Some(kind) = kind()? else {
         return Ok(None);
-    }
+    };
     let h: [u32; 6] = table(6);
     let right = called(&h);
     let cases = h[0] as usize;
@@ -74,9 +69,10 @@ fn one(starts: &[u32], rows: &[u32], parents: &[u32], a: &mut [u32], b: &mut [u3
     let told = call(&w, starts, rows, parents, a, b);
     let first = listed(a, a.len());
     let second = listed(b, b.len());
-    first && second && matches(&w, told)
+    told && first && second
 }
 
+// Whether the call tells what its words say.
 fn call(
     w: &[u32; 6],
     starts: &[u32],
@@ -84,15 +80,12 @@ fn call(
     parents: &[u32],
     a: &mut [u32],
     b: &mut [u32],
-) -> Told {
+) -> bool {
     let at = w[1] as usize;
     if w[0] == TREE {
-        return of_tree(elimination_tree::new(at, starts, rows, a, b));
+        let grown = elimination_tree::new(at, starts, rows, a, b);
+        return says(w, &grown, of_tree(&grown));
     }
-    of_walk(reach::reach(starts, rows, parents, at, w[2], a, b))
-}
-
-// Whether the words of a call say so.
-fn matches(w: &[u32; 6], t: Told) -> bool {
-    w[3] as usize == t.number && w[4] as usize == t.first && w[5] as usize == t.second
+    let walked = reach::reach(starts, rows, parents, at, w[2], a, b);
+    says(w, &walked, of_walk(&walked))
 }

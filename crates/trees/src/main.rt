@@ -7,13 +7,14 @@ mod print;
 mod told;
 
 use word_list::cases::replay;
+use word_list::print::summary;
 
 // The turns at the list at most, its end among them.
 const MOST: u64 = 65536;
 
 fn main() {
     match replay::<16, _, _>(MOST, call::next, print::wrong) {
-        Ok(tally) => print::summary(&tally),
+        Ok(tally) => summary(&print::NAMES, &tally),
         Err(_) => print::bad(),
     }
 }

@@ -1,12 +1,11 @@
 // What the program writes.
 use io::{print_decimal, write_all};
-use word_list::print::{counts, verdict};
-use word_list::tally::Tally;
+use word_list::print::name;
 
 const STDOUT: i32 = 1;
 
 // The kinds from 1 on.
-const NAMES: [&[u8]; 13] = [
+pub const NAMES: [&[u8]; 13] = [
     b"P1, P2",
     b"trees of plans",
     b"walks of plans",
@@ -22,29 +21,16 @@ const NAMES: [&[u8]; 13] = [
     b"walk: lent buffers",
 ];
 
-// A line for each kind, one for all, and the verdict.
-pub fn summary(tally: &Tally<16>) {
-    for kind in 1..14usize {
-        name(kind);
-        counts(tally.counts[kind]);
-    }
-    verdict(tally.total());
-}
-
+// The list is bad.
 pub fn bad() {
     write_all(STDOUT, b"bad list\n");
 }
 
+// A call of a turn comes out otherwise than listed.
 pub fn wrong(k: u64, kind: usize) {
     write_all(STDOUT, b"wrong: turn ");
     print_decimal(STDOUT, k);
     write_all(STDOUT, b", ");
-    name(kind);
+    name(&NAMES, kind);
     write_all(STDOUT, b"\n");
-}
-
-// A kind past the last has the last name.
-fn name(kind: usize) {
-    let at = kind.clamp(1, NAMES.len()) - 1;
-    write_all(STDOUT, NAMES[at]);
 }

@@ -1,46 +1,36 @@
-// What a call tells.
+// What a call tells, and whether the list says the same.
 use elimination_tree::TreeError;
 use reach::ReachError;
 use reach::cores::Mark;
+use refusal::{Refusal, number_of};
 
-#[derive(Clone, Copy)]
-pub struct Told {
-    // The refusal's number, 0 for none.
-    pub number: usize,
-    // Its place, or the buffer that is short; of a walk the mark that it used.
-    pub first: usize,
-    // 1 where the place is in the parents, or the need; of a walk where its list begins.
-    pub second: usize,
+// Whether the words of a call have the answer's number, and the two places that it carries.
+pub fn says<T, E: Refusal>(w: &[u32; 6], answer: &Result<T, E>, carried: (usize, usize)) -> bool {
+    w[3] == number_of(answer) && w[4] as usize == carried.0 && w[5] as usize == carried.1
 }
 
-pub fn of_tree(g: Result<(), TreeError>) -> Told {
-    match g {
-        Ok(_) => tells(0, 0, 0),
-        Err(TreeError::Blocks) => tells(1, 0, 0),
-        Err(TreeError::Starts { place }) => tells(3, place, 0),
-        Err(TreeError::Row { place }) => tells(5, place, 0),
-        Err(TreeError::Order { place }) => tells(6, place, 0),
-        Err(TreeError::Short { which, need }) => tells(11, which, need),
+// The place, or the buffer that is short and its need.
+pub fn of_tree(answer: &Result<(), TreeError>) -> (usize, usize) {
+    match answer {
+        Ok(_) | Err(TreeError::Blocks) => (0, 0),
+        Err(TreeError::Starts { place } | TreeError::Row { place } | TreeError::Order { place }) =>
+            (*place, 0),
+        Err(TreeError::Short { which, need }) => (*which, *need),
     }
 }
 
-pub fn of_walk(r: Result<Mark, ReachError>) -> Told {
-    match r {
-        Ok(m) => tells(0, m.mark as usize, m.top),
-        Err(ReachError::Blocks) => tells(1, 0, 0),
-        Err(ReachError::Starts { place }) => tells(3, place, 0),
-        Err(ReachError::Row { place }) => tells(5, place, 0),
-        Err(ReachError::Parent { place }) => tells(5, place, 1),
-        Err(ReachError::Order { place }) => tells(6, place, 0),
-        Err(ReachError::Short { which, need }) => tells(11, which, need),
-        Err(ReachError::Past { place }) => tells(12, place, 0),
-    }
-}
-
-fn tells(number: usize, first: usize, second: usize) -> Told {
-    Told {
-        number,
-        first,
-        second,
+// The mark that the walk used and where its list begins; the place, and 1 where it is in the parents; the buffer that is short and its need.
+pub fn of_walk(answer: &Result<Mark, ReachError>) -> (usize, usize) {
+    match answer {
+        Ok(m) => (m.mark as usize, m.top),
+        Err(ReachError::Blocks) => (0, 0),
+        Err(
+            ReachError::Starts { place }
+            | ReachError::Row { place }
+            | ReachError::Order { place }
+            | ReachError::Past { place },
+        ) => (*place, 0),
+        Err(ReachError::Parent { place }) => (*place, 1),
+        Err(ReachError::Short { which, need }) => (*which, *need),
     }
 }

@@ -16,7 +16,7 @@ use dense_pivots::{Definiteness, LdltResult};
 use refusal::ShapeError;
 use replay::{count, float, on, same};
 
-// Kept: the list has a word for each count, and `matches` compares those words; an `Option` or a list would be counted for it.
+// Kept: the list has a word for the number and for each count, and `matches` compares those words; an `Option` or a list would be counted for it.
 #[derive(Clone, Copy)]
 pub struct Told {
     // The refusal's number, 0 for none.

@@ -1,12 +1,100 @@
-// The library's functions by their ops. The sizes go in as the list gives them.
-use refusal::ShapeError;
+// The library's functions, and the call of each. The sizes go in as the list gives them.
+use block_diag_ldlt::decompose;
+use block_diag_solve::{right_solve_inplace, solve_inplace_vec};
+use dense_ldlt::ldlt_decompose_inplace;
+use dense_solve::{ldlt_matsolve_inplace, ldlt_solve_inplace};
+use dense_solve_right::ldlt_right_matsolve_inplace;
+use kernel_diag::{diag_matsolve_inplaced, diag_solve_inplaced};
+use kernel_diag_right::diag_right_matsolve_inplace;
+use kernel_lower::{lower_matsolve_inplace, lower_solve_inplace};
+use kernel_lower_transpose::{lower_transpose_matsolve_inplace, lower_transpose_solve_inplace};
+use kernel_product::{add_mat_diag_mat_t_inplace, sub_mat_diag_mat_t_inplace};
+use kernel_right::lower_right_solve_inplace;
+use kernel_right_transpose::lower_transpose_rightsolve_inplace;
+use kernel_vector::sub_mat_plus_vec_inplace;
+use kernel_vector_transpose::sub_mat_transpose_plus_vec_in_place;
 use replay::{count, float};
 use vector_answers::{Told, of_block, of_dense, of_shaped};
+use word_list::cases::BadList;
+
+// A function of the library.
+#[derive(Clone, Copy)]
+pub enum Op {
+    LowerSolve,
+    LowerMatsolve,
+    LowerTransposeSolve,
+    LowerTransposeMatsolve,
+    DiagSolve,
+    DiagMatsolve,
+    LowerRightSolve,
+    LowerTransposeRightsolve,
+    DiagRightMatsolve,
+    SubMatDiagMatT,
+    AddMatDiagMatT,
+    SubMatPlusVec,
+    SubMatTransposePlusVec,
+    LdltDecompose,
+    LdltSolve,
+    LdltMatsolve,
+    LdltRightMatsolve,
+    Decompose,
+    SolveVec,
+    RightSolve,
+}
+
+// The list counts them from 1 on.
+// Kept: the list's number of a function, which becomes the enum here.
+impl TryFrom<usize> for Op {
+    type Error = BadList;
+
+    fn try_from(op: usize) -> Result<Op, BadList> {
+        match op {
+            1 => Ok(Op::LowerSolve),
+            2 => Ok(Op::LowerMatsolve),
+            3 => Ok(Op::LowerTransposeSolve),
+            4 => Ok(Op::LowerTransposeMatsolve),
+            5 => Ok(Op::DiagSolve),
+            6 => Ok(Op::DiagMatsolve),
+            7 => Ok(Op::LowerRightSolve),
+            8 => Ok(Op::LowerTransposeRightsolve),
+            9 => Ok(Op::DiagRightMatsolve),
+            10 => Ok(Op::SubMatDiagMatT),
+            11 => Ok(Op::AddMatDiagMatT),
+            12 => Ok(Op::SubMatPlusVec),
+            13 => Ok(Op::SubMatTransposePlusVec),
+            14 => Ok(Op::LdltDecompose),
+            15 => Ok(Op::LdltSolve),
+            16 => Ok(Op::LdltMatsolve),
+            17 => Ok(Op::LdltRightMatsolve),
+            18 => Ok(Op::Decompose),
+            19 => Ok(Op::SolveVec),
+            20 => Ok(Op::RightSolve),
+            _ => Err(BadList {}),
+        }
+    }
+}
+
+impl Op {
+    // How many slices it takes.
+    pub fn slices(self) -> usize {
+        match self {
+            Op::SubMatDiagMatT | Op::AddMatDiagMatT => 4,
+            Op::SubMatPlusVec
+            | Op::SubMatTransposePlusVec
+            | Op::LdltSolve
+            | Op::LdltMatsolve
+            | Op::LdltRightMatsolve
+            | Op::Decompose
+            | Op::SolveVec
+            | Op::RightSolve => 3,
+            _ => 2,
+        }
+    }
+}
 
 // What a call is given beside its slices.
 #[derive(Clone, Copy)]
 pub struct Head {
-    pub op: usize,
     pub p: usize,
     pub q: usize,
     pub r: usize,
@@ -15,7 +103,6 @@ pub struct Head {
 
 pub fn head_of(w: &[u8]) -> Head {
     Head {
-        op: count(w, 0),
         p: count(w, 1),
         q: count(w, 2),
         r: count(w, 3),
@@ -23,97 +110,33 @@ pub fn head_of(w: &[u8]) -> Head {
     }
 }
 
-// The call of a case whose numbers stand in a, b, c and d, as many of them as its op takes.
-pub fn call(h: Head, a: &mut [f64], b: &mut [f64], c: &mut [f64], d: &mut [f64]) -> Told {
-    if h.op < 10 {
-        return of_shaped(two(h, a, b));
-    }
-    if h.op < 12 {
-        return of_shaped(product(h, a, b, c, d));
-    }
-    three(h, a, b, c)
-}
-
-// 1 to 9
-fn two(h: Head, a: &[f64], b: &mut [f64]) -> Result<(), ShapeError> {
-    if h.op < 7 {
-        return from_left(h.op, h.p, h.q, a, b);
-    }
-    from_right(h.op, h.p, h.q, a, b)
-}
-
-// 12 to 20
-fn three(h: Head, a: &mut [f64], b: &mut [f64], c: &mut [f64]) -> Told {
-    if h.op < 14 {
-        return of_shaped(vector(h.op, h.p, h.q, a, b, c));
-    }
-    if h.op == 14 {
-        return of_dense(dense_ldlt::ldlt_decompose_inplace(h.p, a, b, h.tolerance));
-    }
-    if h.op == 18 {
-        return of_block(block_diag_ldlt::decompose(h.p, a, b, c, h.tolerance));
-    }
-    of_shaped(solve(h.op, h.p, h.q, a, b, c))
-}
-
-// 1 to 6
-fn from_left(op: usize, p: usize, q: usize, a: &[f64], b: &mut [f64]) -> Result<(), ShapeError> {
+// The call of a case whose numbers stand in a, b, c and d, as many of them as its function takes.
+pub fn call(op: Op, h: Head, a: &mut [f64], b: &mut [f64], c: &mut [f64], d: &mut [f64]) -> Told {
+    let (p, q, r) = (h.p, h.q, h.r);
     match op {
-        1 => kernel_lower::lower_solve_inplace(p, a, b),
-        2 => kernel_lower::lower_matsolve_inplace(p, q, a, b),
-        3 => kernel_lower_transpose::lower_transpose_solve_inplace(p, a, b),
-        4 => kernel_lower_transpose::lower_transpose_matsolve_inplace(p, q, a, b),
-        5 => kernel_diag::diag_solve_inplaced(p, a, b),
-        _ => kernel_diag::diag_matsolve_inplaced(p, q, a, b),
-    }
-}
-
-// 7 to 9
-fn from_right(op: usize, p: usize, q: usize, a: &[f64], b: &mut [f64]) -> Result<(), ShapeError> {
-    match op {
-        7 => kernel_right::lower_right_solve_inplace(p, q, a, b),
-        8 => kernel_right_transpose::lower_transpose_rightsolve_inplace(p, q, a, b),
-        _ => kernel_diag_right::diag_right_matsolve_inplace(p, q, a, b),
-    }
-}
-
-// 10 and 11
-fn product(h: Head, a: &mut [f64], b: &[f64], c: &[f64], d: &[f64]) -> Result<(), ShapeError> {
-    if h.op == 10 {
-        return kernel_product::sub_mat_diag_mat_t_inplace(h.p, h.q, h.r, a, b, c, d);
-    }
-    kernel_product::add_mat_diag_mat_t_inplace(h.p, h.q, h.r, a, b, c, d)
-}
-
-// 12 and 13
-fn vector(
-    op: usize,
-    p: usize,
-    q: usize,
-    a: &mut [f64],
-    b: &[f64],
-    c: &[f64],
-) -> Result<(), ShapeError> {
-    match op {
-        12 => kernel_vector::sub_mat_plus_vec_inplace(p, q, a, b, c),
-        _ => kernel_vector_transpose::sub_mat_transpose_plus_vec_in_place(p, q, a, b, c),
-    }
-}
-
-// 15 to 17, 19 and 20
-fn solve(
-    op: usize,
-    p: usize,
-    q: usize,
-    a: &[f64],
-    b: &[f64],
-    c: &mut [f64],
-) -> Result<(), ShapeError> {
-    match op {
-        15 => dense_solve::ldlt_solve_inplace(p, a, b, c),
-        16 => dense_solve::ldlt_matsolve_inplace(p, q, a, b, c),
-        17 => dense_solve_right::ldlt_right_matsolve_inplace(p, q, a, b, c),
-        19 => block_diag_solve::solve_inplace_vec(p, a, b, c),
-        _ => block_diag_solve::right_solve_inplace(p, q, a, b, c),
+        Op::LowerSolve => of_shaped(lower_solve_inplace(p, a, b)),
+        Op::LowerMatsolve => of_shaped(lower_matsolve_inplace(p, q, a, b)),
+        Op::LowerTransposeSolve => of_shaped(lower_transpose_solve_inplace(p, a, b)),
+        Op::LowerTransposeMatsolve => of_shaped(lower_transpose_matsolve_inplace(p, q, a, b)),
+        Op::DiagSolve => of_shaped(diag_solve_inplaced(p, a, b)),
+        Op::DiagMatsolve => of_shaped(diag_matsolve_inplaced(p, q, a, b)),
+        Op::LowerRightSolve => of_shaped(lower_right_solve_inplace(p, q, a, b)),
+        Op::LowerTransposeRightsolve => {
+            of_shaped(lower_transpose_rightsolve_inplace(p, q, a, b))
+        }
+        Op::DiagRightMatsolve => of_shaped(diag_right_matsolve_inplace(p, q, a, b)),
+        Op::SubMatDiagMatT => of_shaped(sub_mat_diag_mat_t_inplace(p, q, r, a, b, c, d)),
+        Op::AddMatDiagMatT => of_shaped(add_mat_diag_mat_t_inplace(p, q, r, a, b, c, d)),
+        Op::SubMatPlusVec => of_shaped(sub_mat_plus_vec_inplace(p, q, a, b, c)),
+        Op::SubMatTransposePlusVec => {
+            of_shaped(sub_mat_transpose_plus_vec_in_place(p, q, a, b, c))
+        }
+        Op::LdltDecompose => of_dense(ldlt_decompose_inplace(p, a, b, h.tolerance)),
+        Op::LdltSolve => of_shaped(ldlt_solve_inplace(p, a, b, c)),
+        Op::LdltMatsolve => of_shaped(ldlt_matsolve_inplace(p, q, a, b, c)),
+        Op::LdltRightMatsolve => of_shaped(ldlt_right_matsolve_inplace(p, q, a, b, c)),
+        Op::Decompose => of_block(decompose(p, a, b, c, h.tolerance)),
+        Op::SolveVec => of_shaped(solve_inplace_vec(p, a, b, c)),
+        Op::RightSolve => of_shaped(right_solve_inplace(p, q, a, b, c)),
     }
 }

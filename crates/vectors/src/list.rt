@@ -1,7 +1,7 @@
 // One case of the list: read, laid out, replayed and judged.
 ghost use Rattle.std.specs.Prelude.{◌≡◌, ◌≤◌, length};
 
-use crate::calls::{call, head_of};
+use crate::calls::{Op, call, head_of};
 use replay::{count, fill, on, same_slice};
 use vector_answers::matches;
 use word_list::cases::{BadList, Case};
@@ -31,14 +31,16 @@ pub fn next() -> Result<Option<Case>, BadList> {
 
 fn read_case(buffer: &mut [u8]) -> Result<Case, BadList> {
     let got = io::read_full(STDIN, buffer);
-    if got < buffer.len() || !is_case(buffer) {
+    let kind = count(buffer, 0);
+    let op = Op::try_from(kind)?;
+    if got < buffer.len() || !is_case(buffer, op) {
         return Err(BadList {});
     }
-    Ok(Case::one(count(buffer, 0), is_right(buffer)))
+    Ok(Case::one(kind, is_right(buffer, op)))
 }
 
 // Whether the call of a case answers as the list says, and leaves every slice as it says.
-fn is_right(w: &[u8]) -> bool {
+fn is_right(w: &[u8], op: Op) -> bool {
     let mut a = numbers(w, 0);
     let mut b = numbers(w, 1);
     let mut c = numbers(w, 2);
@@ -47,7 +49,14 @@ fn is_right(w: &[u8]) -> bool {
     let lb = length_of(w, 1);
     let lc = length_of(w, 2);
     let ld = length_of(w, 3);
-    agrees(w, &mut a[..la], &mut b[..lb], &mut c[..lc], &mut d[..ld])
+    agrees(
+        w,
+        op,
+        &mut a[..la],
+        &mut b[..lb],
+        &mut c[..lc],
+        &mut d[..ld],
+    )
 }
 
 // Slice i's numbers before the call, and zeros after them.
@@ -61,8 +70,8 @@ fn numbers(w: &[u8], i: usize) -> [f64; 512]
 }
 
 // Whether the call on a, b, c and d answers as the list says, and every slice is afterwards what it says.
-fn agrees(w: &[u8], a: &mut [f64], b: &mut [f64], c: &mut [f64], d: &mut [f64]) -> bool {
-    matches(w, answer(w), call(head_of(w), a, b, c, d)) && same_slices(w, a, b, c, d)
+fn agrees(w: &[u8], op: Op, a: &mut [f64], b: &mut [f64], c: &mut [f64], d: &mut [f64]) -> bool {
+    matches(w, answer(w), call(op, head_of(w), a, b, c, d)) && same_slices(w, a, b, c, d)
 }
 
 fn same_slices(w: &[u8], a: &[f64], b: &[f64], c: &[f64], d: &[f64]) -> bool {
@@ -72,21 +81,11 @@ fn same_slices(w: &[u8], a: &[f64], b: &[f64], c: &[f64], d: &[f64]) -> bool {
         && same_slice(w, after(w, 3), d)
 }
 
-// Whether the words are laid out as those of a case: an op, as many slices as it takes, none longer than the room for it, and
+// Whether the words are laid out as those of a case: as many slices as its function takes, none longer than the room for it, and
 // no word too few or too many.
-fn is_case(w: &[u8]) -> bool {
-    let slices = slices_of(count(w, 0));
-    slices != 0 && count(w, 5) == slices && have_room(w, slices) && after(w, slices) == w.len() / 8
-}
-
-// How many slices an op takes; 0 where there is no such op.
-fn slices_of(op: usize) -> usize {
-    match op {
-        1..=9 | 14 => 2,
-        12 | 13 | 15..=20 => 3,
-        10 | 11 => 4,
-        _ => 0,
-    }
+fn is_case(w: &[u8], op: Op) -> bool {
+    let slices = op.slices();
+    count(w, 5) == slices && have_room(w, slices) && after(w, slices) == w.len() / 8
 }
 
 fn have_room(w: &[u8], slices: usize) -> bool {

@@ -37,6 +37,7 @@ pub fn summary(tally: &Tally<21>) {
     counts(tally.total());
 }
 
+// Kept: the list's number of a function, which is printed.
 pub fn wrong(k: u64, op: usize) {
     write_all(STDOUT, b"wrong: case ");
     print_decimal(STDOUT, k);

@@ -1,13 +1,15 @@
 // The cases of a list, one after the other, and what came of them.
-ghost use Rattle.std.specs.Prelude.{◌≡◌, ◌+◌, ◌⊎◌, List, length, IfOk, IfErr, cond, Ok, Err, Some, None};
+ghost use Rattle.std.specs.Prelude.{◌≡◌, ◌+◌, ◌<◌, ◌⊎◌, List, length, IfOk, IfErr, IfSome, cond, Ok, Err, Some, None};
 ghost use Rattle.std.specs.List.{FoldsTo};
 ghost use Rattle.word_list.specs.declared.cases.Case.{Case};
 ghost use Rattle.word_list.specs.declared.cases.BadList.{BadList};
 ghost use Rattle.word_list.specs.Cases.{tallied};
 
+use crate::entry::Entry;
 use crate::tally::{Count, Tally};
 
 // What a case of a list came to.
+// Kept: the list's number of a kind. It says where the case is counted, and a list may have kinds that its program has no name for.
 #[derive(Clone, Copy)]
 pub struct Case {
     pub kind: usize,
@@ -32,6 +34,17 @@ impl Case {
 // A list that ends early, or a case that does not fit.
 #[derive(Clone, Copy)]
 pub struct BadList {}
+
+// The kind of the case that comes next; none is the word that ends the list.
+pub fn kind() -> Result<Option<usize>, BadList>
+    ensures { IfOk result (λ next. IfSome next (λ kind. 0 < kind)) }
+{
+    match u32::next() {
+        None => Err(BadList {}),
+        Some(0) => Ok(None),
+        Some(kind) => Ok(Some(kind as usize)),
+    }
+}
 
 // Every case to the end of the list, counted at its kind; `wrong` is told the number and the kind of each that comes out otherwise.
 // Of a list that is bad, or has no end within `most` cases, the number of the case where that shows.

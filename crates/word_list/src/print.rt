@@ -1,5 +1,5 @@
-// The lines that name no kind. What is written no contract can say.
-use crate::tally::Count;
+// What a program that replays a list writes. What is written no contract can say.
+use crate::tally::{Count, Tally};
 use io::{print_decimal, write_all};
 
 const STDOUT: i32 = 1;
@@ -35,4 +35,35 @@ pub fn bad(k: u64)
     write_all(STDOUT, b"bad list at case ");
     print_decimal(STDOUT, k);
     write_all(STDOUT, b"\n");
+}
+
+// The name of a kind, of the names from 1 on: a kind past the last has the last name.
+pub fn name(names: &[&[u8]], kind: usize)
+    ensures { Unit {0} }
+{
+    if let Some(last) = names.len().checked_sub(1) {
+        write_all(STDOUT, names[last.min(kind.saturating_sub(1))]);
+    }
+}
+
+// A case of a kind comes out otherwise than listed.
+pub fn wrong(names: &[&[u8]], k: u64, kind: usize)
+    ensures { Unit {0} }
+{
+    write_all(STDOUT, b"wrong: case ");
+    print_decimal(STDOUT, k);
+    write_all(STDOUT, b", ");
+    name(names, kind);
+    write_all(STDOUT, b"\n");
+}
+
+// A line for each kind that has a name, one for all, and the verdict.
+pub fn summary<const N: usize>(names: &[&[u8]], tally: &Tally<N>)
+    ensures { Unit {0} }
+{
+    for (name, count) in names.iter().zip(tally.counts.iter().skip(1)) {
+        write_all(STDOUT, name);
+        counts(*count);
+    }
+    verdict(tally.total());
 }

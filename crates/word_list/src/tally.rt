@@ -38,6 +38,7 @@ impl<const N: usize> Tally<N> {
     }
 
     // Counts some more of a kind, at 0 where it has no place of its own.
+    // Kept: the list's number of a kind, as in `cases`.
     pub fn add(&mut self, kind: usize, by: Count)
         ensures { self.new.counts ≡ counted self.old.counts kind by }
     {

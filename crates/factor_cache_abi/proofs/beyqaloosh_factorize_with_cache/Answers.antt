@@ -1,78 +1,22 @@
 -- `factor_cache_abi::beyqaloosh_factorize_with_cache` meets its contract: the number of what the call answers. Assumes nothing.
+use mathlib.Core.Path.{sym, subst}
+use borrow.Author.Rules.{rules}
+use Rattle.factor_setup.specs.Exact.{system}
+use Rattle.factor_core.specs.Factorize.{Places, lent, lent_of}
+use Rattle.factor_core.specs.Cache.{FactorsWithCache}
+use Rattle.factor_report.proofs.PlacesLaws.{same_places}
 use Rattle.factor_cache_abi.proofs.beyqaloosh_factorize_with_cache.Goals as goal
-
-pub shape_of-order : goal.shape_of-order
-shape_of-order c = c.factorize_with_cache-f.auto.order
-
-pub shape_of-parents : goal.shape_of-parents
-shape_of-parents c = c.factorize_with_cache-f.auto.parents
-
-pub shape_of-l_starts : goal.shape_of-l_starts
-shape_of-l_starts c = c.factorize_with_cache-f.auto.l_starts
-
-pub shape_of-l_rows : goal.shape_of-l_rows
-shape_of-l_rows c = c.factorize_with_cache-f.auto.l_rows
-
-pub shape_of-l_offsets : goal.shape_of-l_offsets
-shape_of-l_offsets c = c.factorize_with_cache-f.auto.l_offsets
-
-pub shape_of-l_values : goal.shape_of-l_values
-shape_of-l_values c = c.factorize_with_cache-f.auto.l_values
-
-pub shape_of-diag : goal.shape_of-diag
-shape_of-diag c = c.factorize_with_cache-f.auto.diag
-
-pub shape_of-d : goal.shape_of-d
-shape_of-d c = c.factorize_with_cache-f.auto.d
-
-pub shape_of-column : goal.shape_of-column
-shape_of-column c = c.factorize_with_cache-f.auto.column
-
-pub shape_of-inverse : goal.shape_of-inverse
-shape_of-inverse c = c.factorize_with_cache-f.auto.inverse
-
-pub shape_of-sizes : goal.shape_of-sizes
-shape_of-sizes c = c.factorize_with_cache-f.auto.sizes
-
-pub shape_of-count : goal.shape_of-count
-shape_of-count c = c.factorize_with_cache-f.auto.count
-
-pub shape_of-heads : goal.shape_of-heads
-shape_of-heads c = c.factorize_with_cache-f.auto.heads
-
-pub shape_of-into : goal.shape_of-into
-shape_of-into c = c.factorize_with_cache-f.auto.into
-
-pub shape_of-stamps : goal.shape_of-stamps
-shape_of-stamps c = c.factorize_with_cache-f.auto.stamps
-
-pub shape_of-table : goal.shape_of-table
-shape_of-table c = c.factorize_with_cache-f.auto.table
-
-pub shape_of-upper : goal.shape_of-upper
-shape_of-upper c = c.factorize_with_cache-f.auto.upper
-
-pub shape_of-bodies : goal.shape_of-bodies
-shape_of-bodies c = c.factorize_with_cache-f.auto.bodies
-
-pub shape_of-unit_starts : goal.shape_of-unit_starts
-shape_of-unit_starts c = c.factorize_with_cache-f.auto.unit_starts
-
-pub shape_of-d_starts : goal.shape_of-d_starts
-shape_of-d_starts c = c.factorize_with_cache-f.auto.d_starts
-
-pub shape_of-places : goal.shape_of-places
-shape_of-places c = c.factorize_with_cache-f.auto.places
-
-pub shape_of-cache : goal.shape_of-cache
-shape_of-cache c = c.factorize_with_cache-f.auto.cache
 
 pub returns : goal.returns
 returns c =
+    let x = c.args in
     let f = c.factorize_with_cache-f in
+    let a = system x.dims.now x.starts.now x.rows.now x.values.now x.perm.now x.late.now x.tol in
+    let b = lent x.order.now x.parents.now x.l_starts.now x.l_rows.now x.l_offsets.now x.l_values.now x.diag.now x.d.now x.column.now x.inverse.now x.sizes.now x.count.now x.heads.now x.into.now x.stamps.now x.table.now x.upper.now x.bodies.now x.unit_starts.now x.d_starts.now x.places.now in
     record {
       outcome = f.result;
-      factors = f.ensures;
+      factors = subst (λ (b' : Places). FactorsWithCache a b x.cache.now f.result b' f.new.cache) (sym (same_places (lent_of f.new.o f.new.w)
+          (search rules) (search rules) (search rules) (search rules) (search rules) (search rules) (search rules) (search rules) (search rules) (search rules) (search rules) (search rules) (search rules) (search rules) (search rules) (search rules) (search rules) (search rules) (search rules) (search rules) (search rules))) f.ensures.factors;
       number = c.tell.ensures.0;
       carries = c.tell.ensures.1;
       carries_float = c.tell.ensures.2;

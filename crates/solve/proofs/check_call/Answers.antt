@@ -1,21 +1,25 @@
--- `solve::check_call` meets its contract: the tables are refused, or they pass and 11 and 12 decide. Assumes nothing.
-use mathlib.Core.Path.{sym, ap, ◌∙◌}
+-- `solve::check_call` meets its contract: where the tables have passed, they are sound. Assumes nothing.
+use Rattle.std.specs.Prelude.{length}
+use mathlib.Core.Path.{sym, ap}
 use Rattle.refusal.specs.Refusal.{refuses}
 use Rattle.solve_checks.proofs.Sound.{solve-sound}
-use Rattle.solve.specs.Solve.{call_verdict}
-use Rattle.solve.proofs.Laws.{stops_first, goes_first, l-columns}
+use Rattle.solve.proofs.CallLaws.{call-needs}
+use Rattle.solve.proofs.Laws.{l-columns}
 use Rattle.solve.proofs.check_call.Goals as goal
 
-pub lent_core-requires : goal.lent_core-requires
-lent_core-requires c =
+pub scalars-all-requires : goal.scalars-all-requires
+scalars-all-requires c =
     let x = c.args in
-    let s = solve-sound x.dims.now x.starts.now x.rows.now x.perm.now x.late.now x.parents.now x.l_starts.now x.l_rows.now x.l_values.now (ap refuses (sym c.in-Ok.ensures)) in
-    (s.plan, l-columns x.dims.now x.starts.now x.rows.now x.perm.now x.late.now x.parents.now x.l_starts.now x.l_rows.now x.l_values.now s)
+    let s = solve-sound x.system.now.dims.now x.system.now.starts.now x.system.now.rows.now x.system.now.perm.now x.system.now.late.now x.factor.now.parents.now x.factor.now.l_starts.now x.factor.now.l_rows.now x.factor.now.l_values.now (ap refuses (sym c.in_ok-check_solve.ensures)) in
+    (s.plan.sizes, s.plan.blocks)
 
-pub returns-in-Ok : goal.returns-in-Ok
-unfolding call_verdict
-returns-in-Ok c = goes_first c.in-Ok.ensures c.lent_core.ensures
+pub first_mismatch-requires : goal.first_mismatch-requires
+first_mismatch-requires c =
+    let x = c.args in
+    let s = solve-sound x.system.now.dims.now x.system.now.starts.now x.system.now.rows.now x.system.now.perm.now x.system.now.late.now x.factor.now.parents.now x.factor.now.l_starts.now x.factor.now.l_rows.now x.factor.now.l_values.now (ap refuses (sym c.in_ok-check_solve.ensures)) in
+    (s.plan, l-columns x.system.now.dims.now x.system.now.starts.now x.system.now.rows.now x.system.now.perm.now x.system.now.late.now x.factor.now.parents.now x.factor.now.l_starts.now x.factor.now.l_rows.now x.factor.now.l_values.now s)
 
-pub returns-in-Err : goal.returns-in-Err
-unfolding call_verdict
-returns-in-Err c = stops_first _ (c.of_tables.ensures.0 ∙ c.in-Err.ensures) c.of_tables.ensures.1
+pub returns-in_err-first_short : goal.returns-in_err-first_short
+returns-in_err-first_short c =
+    let x = c.args in
+    call-needs x.system.now.dims.now x.system.now.starts.now x.system.now.rows.now x.system.now.perm.now x.system.now.late.now x.factor.now.order.now x.factor.now.parents.now x.factor.now.l_starts.now x.factor.now.l_rows.now x.factor.now.l_offsets.now x.factor.now.l_values.now (length x.factor.now.diag.now) (length x.factor.now.d.now) (length x.lent.now.x.now) (length x.lent.now.y.now) (length x.lent.now.scalar_perm.now) (length x.lent.now.sizes.now) (length x.lent.now.scalar_starts.now) _ _ c.from_residual-in_err-first_short.ensures c.in_ok-check_solve.ensures c.scalars-all.result c.scalars-all.ensures c.in_err-first_short.ensures.says

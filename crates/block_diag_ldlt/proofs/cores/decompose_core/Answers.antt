@@ -3,6 +3,7 @@ use Rattle.std.specs.Prelude.{◌≡◌, ◌*◌, length}
 use mathlib.Core.Path.{ap, sym, ◌∙◌}
 use native.Mathlib.Omega.{arith}
 use Rattle.block_diag_ldlt.specs.Block.{settle, block_ldlt}
+use Rattle.block_diag_ldlt.proofs.VerdictLaws.{err-is}
 use Rattle.block_diag_ldlt.proofs.cores.decompose_core.Goals as goal
 
 pub returns-then-is_poor : goal.returns-then-is_poor
@@ -10,23 +11,23 @@ unfolding block_ldlt
 returns-then-is_poor c =
     let x = c.args in
     let is-poor = sym c.is_poor.ensures ∙ c.if-is_poor.true in
-    let settled = ap (settle x.n) (rw c.in-Ok.is at c.ldlt_decompose_core-r.ensures) in
-    let factor : length c.ldlt_decompose_core-r.new.a ≡ x.n * x.n = omega (arith, c.ldlt_decompose_core-r.auto.a, c.copy.auto.to) in
-    let diagonal : length c.ldlt_decompose_core-r.new.d ≡ x.n = omega (arith, c.ldlt_decompose_core-r.auto.d) in
+    let settled = ap (settle x.n) (rw c.in_ok-k.was at c.ldlt_decompose_core.ensures) in
+    let factor : length c.ldlt_decompose_core.new.a ≡ x.n * x.n = omega (arith, c.ldlt_decompose_core.auto.a, c.copy.auto.to) in
+    let diagonal : length c.ldlt_decompose_core.new.d ≡ x.n = omega (arith, c.ldlt_decompose_core.auto.d) in
     rw (c.blank.ensures, c.blank-then-is_poor.ensures, factor, diagonal, ← c.copy.ensures)
     (rw is-poor at settled)
 
-pub returns-else-is_poor : goal.returns-else-is_poor
+pub returns : goal.returns
 unfolding block_ldlt
-returns-else-is_poor c =
+returns c =
     let x = c.args in
     let fine = sym c.is_poor.ensures ∙ c.if-is_poor.false in
     rw (← c.copy.ensures)
-    (rw fine at (ap (settle x.n) (rw c.in-Ok.is at c.ldlt_decompose_core-r.ensures)))
+    (rw fine at (ap (settle x.n) (rw c.in_ok-k.was at c.ldlt_decompose_core.ensures)))
 
-pub returns-in-Err : goal.returns-in-Err
+pub returns-in_err-k : goal.returns-in_err-k
 unfolding block_ldlt
-returns-in-Err c =
+returns-in_err-k c =
     let x = c.args in
-    rw (← c.copy.ensures)
-    (ap (settle x.n) (rw c.in-Err.is at c.ldlt_decompose_core-r.ensures))
+    rw (err-is _ _ c.from_residual.ensures.1, ← c.copy.ensures)
+    (ap (settle x.n) (rw c.in_err-k.was at c.ldlt_decompose_core.ensures))

@@ -1,4 +1,4 @@
--- `columns::cores::first_fall` meets its contract: the test is the definition's. Assumes nothing.
+-- `columns::cores::first_fall` meets its contract: the test of a column is the definition's. Assumes nothing.
 use Rattle.std.proofs.Common.{rules}
 use Rattle.tables.specs.Verdict.{at, order_ok}
 use Rattle.columns.proofs.cores.first_fall.Goals as goal

@@ -22,4 +22,4 @@ loop-i-preserved c =
     passed c.loop-i.invariant {r = ltb w.result j} (omega arith) (ap (λ (x : ℕ). ltb x j) w.ensures) (rw (lt-ltb _ _ c.if-j-wide.false))
 
 pub returns : goal.returns
-returns c = ended c.loop-i.invariant (omega arith)
+returns c = let e = ended c.loop-i.invariant (omega arith) in omega (arith, c.loop-i.invariant.within, e)

@@ -1,18 +1,19 @@
 -- `contents::cores::first_offset` meets its contract: a search, one turn an entry, with the numbers of the bodies passed.
 -- Assumes nothing.
-use Rattle.std.specs.Prelude.{◌≡◌, ℕ, ◌+◌, ◌*◌, ◌<◌, ◌≤◌, true, false, length}
+use Rattle.std.specs.Prelude.{◌≡◌, ℕ, ◌+◌, ◌*◌, ◌<◌, ◌≤◌, length}
 use Prim.Native.Nat.{zero-le}
-use mathlib.Core.Path.{refl, sym, ◌∙◌, ap}
+use mathlib.Core.Path.{sym, ◌∙◌, ap}
 use native.Mathlib.Omega.{arith}
 use Rattle.tables.specs.Verdict.{at, area_at, block_area}
-use Rattle.tables.proofs.SearchLaws.{searched, passed, failed, ended}
+use borrow.Author.Count.{below_more}
+use Rattle.tables.proofs.FaultLaws.{fault-here, fault-none}
 use Rattle.scalars.proofs.BodyLaws.{offset-first, offset-next}
 use Rattle.contents.specs.Contents.{starts_from}
 use Rattle.contents.proofs.Laws.{area-is, area_small, offset-hits, offset-misses}
 use Rattle.contents.proofs.cores.first_offset.Goals as goal
 
 pub loop-p-init : goal.loop-p-init
-loop-p-init c = (searched zero-le, sym (offset-first c.args.dims.now _ c.args.rows.now), zero-le)
+loop-p-init c = ((λ k h. absurd (omega arith)), sym (offset-first c.args.dims.now _ c.args.rows.now), zero-le)
 
 -- the sum so far is small
 small : (c : goal.After-wide) → c.loop-p.sum ≤ 4294967296
@@ -28,10 +29,8 @@ pub returns-then-wide-bodies : goal.returns-then-wide-bodies
 returns-then-wide-bodies c =
     let l = c.loop-p in
     let x = c.args in
-    let w = c.wide in
-    failed l.invariant.0 {r = false} (omega arith)
-    (sym (offset-misses x.dims.now x.rows.now x.columns.now x.offsets.now x.bodies l.p (λ e. c.if-wide-bodies.true (w.ensures ∙ e ∙ ap (λ (s : ℕ). x.bodies + 8 * s) (sym l.invariant.1)))))
-    refl
+    fault-here _ 0 _ _ zero-le (omega arith) (λ k _ h. l.invariant.0 k h)
+    (offset-misses x.dims.now x.rows.now x.columns.now x.offsets.now x.bodies l.p (λ e. c.if-wide-bodies.true (c.wide.ensures ∙ e ∙ ap (λ (s : ℕ). x.bodies + 8 * s) (sym l.invariant.1))))
 
 pub bounds-columns-p : goal.bounds-columns-p
 bounds-columns-p c = omega (arith, c.requires.0.as_offsets)
@@ -85,12 +84,10 @@ loop-p-preserved c =
     let l = c.loop-p in
     let x = c.args in
     let w = c.wide in (
-      passed l.invariant.0 {r = true} (omega arith)
-          (sym (offset-hits x.dims.now x.rows.now x.columns.now x.offsets.now x.bodies l.p (sym w.ensures ∙ c.if-wide-bodies.false ∙ ap (λ (s : ℕ). x.bodies + 8 * s) l.invariant.1)))
-          refl,
+      below_more _ _ l.invariant.0 (offset-hits x.dims.now x.rows.now x.columns.now x.offsets.now x.bodies l.p (sym w.ensures ∙ c.if-wide-bodies.false ∙ ap (λ (s : ℕ). x.bodies + 8 * s) l.invariant.1)),
       omega (arith, added c, l.invariant.1, offset-next x.dims.now (starts_from x.columns.now (length x.dims.now)) x.rows.now l.p),
       omega (arith, bounded c, l.invariant.2),
     )
 
 pub returns : goal.returns
-returns c = ended c.loop-p.invariant.0 (omega arith)
+returns c = fault-none _ 0 _ (λ k _ h. c.loop-p.invariant.0 k (omega arith))

@@ -12,11 +12,11 @@ use Rattle.contents.proofs.Laws.{start-from, start-le, start-before, starts-fill
 use Rattle.contents.proofs.cores.make_starts.Goals as goal
 
 pub loop-j-init : goal.loop-j-init
-loop-j-init c = (search rules, search rules, search rules, search rules, (λ q h. absurd (omega arith)), λ i h. absurd (omega arith))
+loop-j-init c = (search rules, search rules, (λ q h. absurd (omega arith)), λ i h. absurd (omega arith))
 
 -- what the search found
 found : (c : goal.After-column_start-p) → c.column_start-p.result ≡ start_at c.args.columns.now c.loop-j.j
-found c = let l = c.loop-j in c.column_start-p.ensures ∙ start-from c.args.columns.now l.j l.p l.invariant.3 l.invariant.4
+found c = let l = c.loop-j in c.column_start-p.ensures ∙ start-from c.args.columns.now l.j l.p l.invariant.1 l.invariant.2
 
 inside : (c : goal.After-column_start-p) → c.column_start-p.result ≤ length c.args.columns.now
 inside c = omega (arith, found c, start-le c.args.columns.now c.args.n c.loop-j.j)
@@ -29,16 +29,14 @@ loop-j-preserved c =
     let l = c.loop-j in
     let columns = c.args.columns.now in
     let r = c.column_start-p.result in (
-      search rules,
-      search rules,
-      simp length-set l.invariant.2,
+      simp length-set l.invariant.0,
       inside c,
       (λ q h. omega (arith, start-before columns c.args.n l.j q (omega (arith, found c)))),
-      below_more _ _ (λ i h. get_or-set_other l.starts l.j i r 0 (omega arith) ∙ l.invariant.5 i h) (get_or-set_same l.starts l.j r 0 (omega arith) ∙ found c),
+      below_more _ _ (λ i h. get_or-set_other l.starts l.j i r 0 (omega arith) ∙ l.invariant.3 i h) (get_or-set_same l.starts l.j r 0 (omega arith) ∙ found c),
     )
 
 pub returns : goal.returns
 returns c =
     let l = c.loop-j in
     let e = c.requires.1 in
-    starts-filled _ _ l.starts (omega arith) (λ j h. l.invariant.5 j (omega arith))
+    starts-filled _ _ l.starts (omega arith) (λ j h. l.invariant.3 j (omega arith))

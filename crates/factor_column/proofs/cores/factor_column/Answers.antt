@@ -5,7 +5,8 @@ use native.Mathlib.Omega.{arith}
 use borrow.Author.Rules.{rules}
 use Rattle.layout.specs.Layout.{Tables, tables}
 use Rattle.work_column.specs.Work.{Next, Works}
-use Rattle.factor_column.specs.declared.cores.Turned.{Turned}
+use Rattle.std.specs.Prelude.{Result}
+use Rattle.block_diag_ldlt.specs.declared.cores.BlockError.{BlockError}
 use Rattle.factor_column.specs.Turn.{given, Counted, Turns}
 use Rattle.factor_column.proofs.TurnLaws.{laid-again, laid-alone, diagonal-again, placed_by, counts-so, turns}
 use Rattle.factor_column.proofs.KeptLaws.{fits-laid}
@@ -130,7 +131,7 @@ returns c =
     subst (λ (m : ℕ). Works t units pivots into upper m j load.new.places values diag d cache load.new.c c.args.count work.new.c work.result) n work.ensures.works in record {
       next_2 = (subst (λ (m : ℕ). Next t m (j + 1) work.new.next) n work.ensures.next_2, work.ensures.below.0);
       counted = subst (Counted j) (sym c.turned_by.ensures) (counts-so j work.result finish.result work.ensures.below.1);
-      turns = subst (λ (r : Turned). Turns t units pivots into upper g j values diag d cache c.args.count r finish.new.values finish.new.diag finish.new.d keep.new.cache) (sym c.turned_by.ensures)
+      turns = subst (λ (r : Result ℕ BlockError). Turns t units pivots into upper g j values diag d cache c.args.count r finish.new.values finish.new.diag finish.new.d keep.new.cache) (sym c.turned_by.ensures)
           (turns t units pivots into upper g j c.requires.next.1 c.requires.source.by_sizes load.new.places values diag d cache load.new.c work.new.c c.args.count work.result
           (λ a served. load.ensures a served.fed) works finish.result finish.new.values finish.new.diag finish.new.d finish.ensures c.requires.rows_laid keep.new.cache keep.ensures);
     }

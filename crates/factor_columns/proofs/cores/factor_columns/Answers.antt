@@ -1,15 +1,14 @@
 -- `factor_columns::cores::factor_columns` meets its contract. Assumes nothing.
-use Rattle.std.specs.Prelude.{◌≡◌, ℕ, ◌<◌, length}
+use Rattle.std.specs.Prelude.{◌≡◌, ℕ, ◌<◌, length, Result}
 use mathlib.Core.Path.{refl, sym, ap, subst, ◌∙◌}
 use native.Mathlib.Numerals.{add-one}
 use native.Mathlib.Omega.{arith}
-use borrow.Author.Rules.{rules}
 use Rattle.machine.specs.System.{System, blocks}
 use Rattle.layout.specs.Layout.{Tables, tables}
-use Rattle.factor_column.specs.declared.cores.Turned.{Turned}
+use Rattle.block_diag_ldlt.specs.declared.cores.BlockError.{BlockError}
 use Rattle.factor_column.specs.Turn.{UpTo, Counted, After}
 use Rattle.factor_column.proofs.TurnLaws.{laid-again, diagonal-again, nothing_yet}
-use Rattle.factor_columns.proofs.RunLaws.{stops_at, whole}
+use Rattle.factor_columns.proofs.RunLaws.{refuses, whole}
 use Rattle.factor_columns.proofs.cores.factor_columns.Goals as goal
 
 -- L's tables, and what the system is fed with
@@ -32,114 +31,55 @@ factor_column-r-requires c =
     let v = c.loop-j in
     let l = v.invariant.1 in record { source = c.requires.source; rows_laid = laid-again (the-tables-2 c) refl (sym l.7) (sym l.6) c.requires.rows_laid; diagonal_laid = diagonal-again c.args.sizes.now c.args.unit_starts.now c.args.d_starts.now refl (sym l.8) (sym l.9) c.requires.diagonal_laid; grown = c.requires.grown; next = (v.invariant.2.0, omega (arith, c.loop-j-test.true, v.invariant.0.0), l.3 ∙ c.requires.next.1); stamps_len = (l.0 ∙ c.requires.stamps_len.0, l.1 ∙ c.requires.stamps_len.1, v.invariant.2.1); in_bounds = (omega (arith, c.requires.in_bounds.0, l.4), omega (arith, c.requires.in_bounds.1, l.5), omega (arith, c.requires.in_bounds.2, l.6), v.invariant.2.2) }
 
-pub enum_known-r : goal.enum_known-r
-enum_known-r c = search rules
+pub shape_of-stamps-in-Err : goal.shape_of-stamps-in-Err
+shape_of-stamps-in-Err c = c.factor_column-r.auto.stamps ∙ c.loop-j.invariant.1.0
 
-pub enum_known-r-in-NotFinite-1 : goal.enum_known-r-in-NotFinite-1
-enum_known-r-in-NotFinite-1 c = search rules
+pub shape_of-out-in-Err : goal.shape_of-out-in-Err
+shape_of-out-in-Err c = c.factor_column-r.auto.out ∙ c.loop-j.invariant.1.1
 
-pub shape_of-stamps-in-NotFinite : goal.shape_of-stamps-in-NotFinite
-shape_of-stamps-in-NotFinite c = c.factor_column-r.auto.stamps ∙ c.loop-j.invariant.1.0
+pub shape_of-next-in-Err : goal.shape_of-next-in-Err
+shape_of-next-in-Err c = c.factor_column-r.auto.next ∙ c.loop-j.invariant.1.2
 
-pub shape_of-out-in-NotFinite : goal.shape_of-out-in-NotFinite
-shape_of-out-in-NotFinite c = c.factor_column-r.auto.out ∙ c.loop-j.invariant.1.1
+pub shape_of-places-in-Err : goal.shape_of-places-in-Err
+shape_of-places-in-Err c = c.factor_column-r.auto.places ∙ c.loop-j.invariant.1.3
 
-pub shape_of-next-in-NotFinite : goal.shape_of-next-in-NotFinite
-shape_of-next-in-NotFinite c = c.factor_column-r.auto.next ∙ c.loop-j.invariant.1.2
+pub shape_of-qj-in-Err : goal.shape_of-qj-in-Err
+shape_of-qj-in-Err c = c.factor_column-r.auto.qj ∙ c.loop-j.invariant.1.4
 
-pub shape_of-places-in-NotFinite : goal.shape_of-places-in-NotFinite
-shape_of-places-in-NotFinite c = c.factor_column-r.auto.places ∙ c.loop-j.invariant.1.3
+pub shape_of-qi-in-Err : goal.shape_of-qi-in-Err
+shape_of-qi-in-Err c = c.factor_column-r.auto.qi ∙ c.loop-j.invariant.1.5
 
-pub shape_of-qj-in-NotFinite : goal.shape_of-qj-in-NotFinite
-shape_of-qj-in-NotFinite c = c.factor_column-r.auto.qj ∙ c.loop-j.invariant.1.4
+pub shape_of-c-in-Err : goal.shape_of-c-in-Err
+shape_of-c-in-Err c = c.factor_column-r.auto.c ∙ c.loop-j.invariant.1.6
 
-pub shape_of-qi-in-NotFinite : goal.shape_of-qi-in-NotFinite
-shape_of-qi-in-NotFinite c = c.factor_column-r.auto.qi ∙ c.loop-j.invariant.1.5
+pub shape_of-l_values-in-Err : goal.shape_of-l_values-in-Err
+shape_of-l_values-in-Err c = c.factor_column-r.auto.l_values ∙ c.loop-j.invariant.1.7
 
-pub shape_of-c-in-NotFinite : goal.shape_of-c-in-NotFinite
-shape_of-c-in-NotFinite c = c.factor_column-r.auto.c ∙ c.loop-j.invariant.1.6
+pub shape_of-diag-in-Err : goal.shape_of-diag-in-Err
+shape_of-diag-in-Err c = c.factor_column-r.auto.diag ∙ c.loop-j.invariant.1.8
 
-pub shape_of-l_values-in-NotFinite : goal.shape_of-l_values-in-NotFinite
-shape_of-l_values-in-NotFinite c = c.factor_column-r.auto.l_values ∙ c.loop-j.invariant.1.7
+pub shape_of-d-in-Err : goal.shape_of-d-in-Err
+shape_of-d-in-Err c = c.factor_column-r.auto.d ∙ c.loop-j.invariant.1.9
 
-pub shape_of-diag-in-NotFinite : goal.shape_of-diag-in-NotFinite
-shape_of-diag-in-NotFinite c = c.factor_column-r.auto.diag ∙ c.loop-j.invariant.1.8
-
-pub shape_of-d-in-NotFinite : goal.shape_of-d-in-NotFinite
-shape_of-d-in-NotFinite c = c.factor_column-r.auto.d ∙ c.loop-j.invariant.1.9
-
-pub shape_of-cache-in-NotFinite : goal.shape_of-cache-in-NotFinite
-shape_of-cache-in-NotFinite c = c.factor_column-r.auto.cache ∙ c.loop-j.invariant.1.10
+pub shape_of-cache-in-Err : goal.shape_of-cache-in-Err
+shape_of-cache-in-Err c = c.factor_column-r.auto.cache ∙ c.loop-j.invariant.1.10
 
 -- column j is one of the system's
 inside : (n : ℕ) (a : System) (j : ℕ) → blocks a ≡ n → j < n → j < blocks a
 inside n a j e h = omega arith
 
-abbrev the-tables-3 : goal.In-NotFinite → Tables
-the-tables-3 start = tables start.args.sizes.now start.args.l_starts.now start.args.l_rows.now start.args.l_offsets.now
-
-pub returns-in-NotFinite : goal.returns-in-NotFinite
-returns-in-NotFinite c =
+pub returns-in-Err : goal.returns-in-Err
+returns-in-Err c =
     let v = c.loop-j in
     let call = c.factor_column-r in
-    λ a served.
-    stops_at a _ v.j (inside (length c.args.dims.now) a v.j (ap length served.fed.by_dims) (omega (arith, c.loop-j-test.true, v.invariant.0.0)))
-    (subst (λ (r : Turned). After (the-tables-3 c) c.args.unit_starts.now c.args.d_starts.now a v.j r call.new.l_values call.new.diag call.new.d call.new.cache) c.in-NotFinite.is (call.ensures.turns a served (v.invariant.3 a served)))
+    let t = tables c.args.sizes.now c.args.l_starts.now c.args.l_rows.now c.args.l_offsets.now in
+    rw c.refused_at.ensures
+    (λ a served.
+    refuses t c.args.unit_starts.now c.args.d_starts.now a v.j c.in-Err.e call.new.l_values call.new.diag call.new.d call.new.cache
+    (inside (length c.args.dims.now) a v.j (ap length served.fed.by_dims) (omega (arith, c.loop-j-test.true, v.invariant.0.0)))
+    (subst (λ (r : Result ℕ BlockError). After t c.args.unit_starts.now c.args.d_starts.now a v.j r call.new.l_values call.new.diag call.new.d call.new.cache) c.in-Err.is (call.ensures.turns a served (v.invariant.3 a served))))
 
-pub enum_known-r-in-Poor-1 : goal.enum_known-r-in-Poor-1
-enum_known-r-in-Poor-1 c = search rules
-
-pub shape_of-stamps-in-Poor : goal.shape_of-stamps-in-Poor
-shape_of-stamps-in-Poor c = c.factor_column-r.auto.stamps ∙ c.loop-j.invariant.1.0
-
-pub shape_of-out-in-Poor : goal.shape_of-out-in-Poor
-shape_of-out-in-Poor c = c.factor_column-r.auto.out ∙ c.loop-j.invariant.1.1
-
-pub shape_of-next-in-Poor : goal.shape_of-next-in-Poor
-shape_of-next-in-Poor c = c.factor_column-r.auto.next ∙ c.loop-j.invariant.1.2
-
-pub shape_of-places-in-Poor : goal.shape_of-places-in-Poor
-shape_of-places-in-Poor c = c.factor_column-r.auto.places ∙ c.loop-j.invariant.1.3
-
-pub shape_of-qj-in-Poor : goal.shape_of-qj-in-Poor
-shape_of-qj-in-Poor c = c.factor_column-r.auto.qj ∙ c.loop-j.invariant.1.4
-
-pub shape_of-qi-in-Poor : goal.shape_of-qi-in-Poor
-shape_of-qi-in-Poor c = c.factor_column-r.auto.qi ∙ c.loop-j.invariant.1.5
-
-pub shape_of-c-in-Poor : goal.shape_of-c-in-Poor
-shape_of-c-in-Poor c = c.factor_column-r.auto.c ∙ c.loop-j.invariant.1.6
-
-pub shape_of-l_values-in-Poor : goal.shape_of-l_values-in-Poor
-shape_of-l_values-in-Poor c = c.factor_column-r.auto.l_values ∙ c.loop-j.invariant.1.7
-
-pub shape_of-diag-in-Poor : goal.shape_of-diag-in-Poor
-shape_of-diag-in-Poor c = c.factor_column-r.auto.diag ∙ c.loop-j.invariant.1.8
-
-pub shape_of-d-in-Poor : goal.shape_of-d-in-Poor
-shape_of-d-in-Poor c = c.factor_column-r.auto.d ∙ c.loop-j.invariant.1.9
-
-pub shape_of-cache-in-Poor : goal.shape_of-cache-in-Poor
-shape_of-cache-in-Poor c = c.factor_column-r.auto.cache ∙ c.loop-j.invariant.1.10
-
-abbrev the-tables-4 : goal.In-Poor → Tables
-the-tables-4 start = tables start.args.sizes.now start.args.l_starts.now start.args.l_rows.now start.args.l_offsets.now
-
-pub returns-in-Poor : goal.returns-in-Poor
-returns-in-Poor c =
-    let v = c.loop-j in
-    let call = c.factor_column-r in
-    λ a served.
-    stops_at a _ v.j (inside (length c.args.dims.now) a v.j (ap length served.fed.by_dims) (omega (arith, c.loop-j-test.true, v.invariant.0.0)))
-    (subst (λ (r : Turned). After (the-tables-4 c) c.args.unit_starts.now c.args.d_starts.now a v.j r call.new.l_values call.new.diag call.new.d call.new.cache) c.in-Poor.is (call.ensures.turns a served (v.invariant.3 a served)))
-
-pub overflow_add-j : goal.overflow_add-j
-overflow_add-j c = omega (arith, c.loop-j-test.true, c.loop-j.invariant.0.0, c.requires.source.few)
-
-pub loop-j-smaller : goal.loop-j-smaller
-loop-j-smaller c = omega (arith, c.loop-j-test.true)
-
-abbrev the-tables-5 : goal.In-Stored → Tables
+abbrev the-tables-5 : goal.In-Ok → Tables
 the-tables-5 start = tables start.args.sizes.now start.args.l_starts.now start.args.l_rows.now start.args.l_offsets.now
 
 pub loop-j-preserved : goal.loop-j-preserved
@@ -147,13 +87,13 @@ loop-j-preserved c =
     let v = c.loop-j in
     let call = c.factor_column-r in
     let l = v.invariant.1 in
-    let is = c.in-Stored.is in (
+    let is = c.in-Ok.is in (
       (v.invariant.0.0, omega (arith, c.loop-j-test.true)),
       (call.auto.stamps ∙ l.0, call.auto.out ∙ l.1, call.auto.next ∙ l.2, call.auto.places ∙ l.3, call.auto.qj ∙ l.4, call.auto.qi ∙ l.5, call.auto.c ∙ l.6, call.auto.l_values ∙ l.7, call.auto.diag ∙ l.8, call.auto.d ∙ l.9, call.auto.cache ∙ l.10),
       (call.ensures.next_2.0, call.ensures.next_2.1, subst (Counted v.j) is call.ensures.counted),
       λ a served.
-          subst (λ (m : ℕ). UpTo (the-tables-5 c) c.args.unit_starts.now c.args.d_starts.now a m call.new.l_values call.new.diag call.new.d call.new.cache c.in-Stored.all) (sym (add-one v.j))
-          (subst (λ (r : Turned). After (the-tables-5 c) c.args.unit_starts.now c.args.d_starts.now a v.j r call.new.l_values call.new.diag call.new.d call.new.cache) is (call.ensures.turns a served (v.invariant.3 a served))),
+          subst (λ (m : ℕ). UpTo (the-tables-5 c) c.args.unit_starts.now c.args.d_starts.now a m call.new.l_values call.new.diag call.new.d call.new.cache c.in-Ok.all) (sym (add-one v.j))
+          (subst (λ (r : Result ℕ BlockError). After (the-tables-5 c) c.args.unit_starts.now c.args.d_starts.now a v.j r call.new.l_values call.new.diag call.new.d call.new.cache) is (call.ensures.turns a served (v.invariant.3 a served))),
     )
 
 pub shape_of-stamps : goal.shape_of-stamps

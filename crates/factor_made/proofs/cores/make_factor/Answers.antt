@@ -2,26 +2,22 @@
 use mathlib.Core.Path.{◌∙◌}
 use borrow.Author.Rules.{rules}
 use Rattle.machine.specs.System.{System}
-use Rattle.factor_setup.specs.Exact.{system}
+use Rattle.factor_setup.specs.Exact.{handed}
 use Rattle.factor_setup.proofs.SetupLaws.{again}
 use Rattle.factor_made.proofs.MadeLaws.{analysis-alone, room-alone, room-again}
 use Rattle.factor_made.proofs.cores.make_factor.Goals as goal
 
 pub write_tables-requires : goal.write_tables-requires
 write_tables-requires c =
-    record { plan_sound = c.requires.system_sound.plan; analyzed = analysis-alone c.args.dims.now c.args.starts.now c.args.rows.now c.args.perm.now c.args.late.now c.args.values.now c.args.tol c.requires.analyzed; table_room = room-alone c.args.dims.now c.args.starts.now c.args.rows.now c.args.perm.now c.args.late.now c.args.values.now c.args.tol c.requires.table_room }
-
--- the system that is factored
-abbrev the-system : goal.After-write_numbers-arg-9-1 → System
-the-system start = system start.args.dims.now start.args.starts.now start.args.rows.now start.args.values.now start.args.perm.now start.args.late.now start.args.tol
+    record { plan_sound = c.requires.system_sound.plan; analyzed = analysis-alone c.args.s.now.dims.now c.args.s.now.starts.now c.args.s.now.rows.now c.args.s.now.perm.now c.args.s.now.late.now c.args.s.now.values.now c.args.s.now.tol c.requires.analyzed; table_room = room-alone c.args.s.now.dims.now c.args.s.now.starts.now c.args.s.now.rows.now c.args.s.now.perm.now c.args.s.now.late.now c.args.s.now.values.now c.args.s.now.tol c.requires.table_room }
 
 pub write_numbers-requires : goal.write_numbers-requires
 write_numbers-requires c =
     let tables = c.write_tables in record {
       system_sound = c.requires.system_sound;
       upper_of = (c.requires.analyzed.listed, c.requires.analyzed.parents);
-      tabled = again c.args.dims.now c.args.starts.now c.args.rows.now c.args.perm.now c.args.late.now c.args.values.now c.args.tol tables.ensures.tabled;
-      number_room = room-again (the-system c) c.args.l_values.now c.args.diag.now c.args.d.now c.args.column.now c.args.inverse.now tables.new.inverse c.args.places.now tables.new.places
+      tabled = again c.args.s.now.dims.now c.args.s.now.starts.now c.args.s.now.rows.now c.args.s.now.perm.now c.args.s.now.late.now c.args.s.now.values.now c.args.s.now.tol tables.ensures.tabled;
+      number_room = room-again (handed c.args.s.now) c.args.l_values.now c.args.diag.now c.args.d.now c.args.column.now c.args.inverse.now tables.new.inverse c.args.places.now tables.new.places
           tables.auto.inverse tables.auto.places c.requires.number_room;
     }
 

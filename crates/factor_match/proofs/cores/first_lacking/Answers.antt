@@ -1,12 +1,22 @@
--- `factor_match::cores::first_lacking` meets its contract: the lowest of two. Assumes nothing.
-use Rattle.match_rows.specs.Rows.{given_in}
-use Rattle.factor_match.proofs.MatchLaws.{lowest-first, lowest_second}
+-- `factor_match::cores::first_lacking` meets its contract: the lowest of two, if there is one. Assumes nothing.
+use Rattle.std.specs.Prelude.{length}
+use mathlib.Core.Path.{sym, ◌∙◌}
+use Rattle.graph.specs.Links.{rows_in, linked_in}
+use Rattle.match_rows.specs.Rows.{given_in, passed_on}
+use Rattle.factor_match.proofs.MatchLaws.{lowest-before, lowest-after, lowest-other}
 use Rattle.factor_match.proofs.cores.first_lacking.Goals as goal
 
-pub returns-then-unpassed-unlinked : goal.returns-then-unpassed-unlinked
+pub returns-in-Some : goal.returns-in-Some
 unfolding given_in
-returns-then-unpassed-unlinked c = lowest-first c.first_unpassed-unpassed.ensures c.first_unlinked-unlinked.ensures c.if-unpassed-unlinked.true
+returns-in-Some c =
+    lowest-before (passed_on (rows_in c.args.l_starts.now c.args.l_rows.now) (length c.args.order.now)) (linked_in c.args.starts.now c.args.rows.now c.args.order.now) c.in-Some.column _ c.in-Some.ensures c.first_unlinked-unlinked.ensures (sym c.is_before.ensures ∙ c.if-is_before.true)
 
-pub returns : goal.returns
+pub returns-in_default : goal.returns-in_default
 unfolding given_in
-returns c = lowest_second c.first_unpassed-unpassed.ensures c.first_unlinked-unlinked.ensures c.if-unpassed-unlinked.false
+returns-in_default c =
+    lowest-after (passed_on (rows_in c.args.l_starts.now c.args.l_rows.now) (length c.args.order.now)) (linked_in c.args.starts.now c.args.rows.now c.args.order.now) c.in-Some.column _ c.in-Some.ensures c.first_unlinked-unlinked.ensures (sym c.is_before.ensures ∙ c.if-is_before.false)
+
+pub returns-in_default-2 : goal.returns-in_default-2
+unfolding given_in
+returns-in_default-2 c =
+    lowest-other (passed_on (rows_in c.args.l_starts.now c.args.l_rows.now) (length c.args.order.now)) (linked_in c.args.starts.now c.args.rows.now c.args.order.now) _ c.in_default.ensures c.first_unlinked-unlinked.ensures

@@ -6,7 +6,7 @@ use Rattle.std.specs.Prelude.{length}
 use lib.ListN.{length-replicate}
 use Rattle.scalar.specs.Block.{zeros}
 use Rattle.machine.specs.System.{System}
-use Rattle.factor_setup.specs.Exact.{system}
+use Rattle.factor_setup.specs.Exact.{handed}
 use Rattle.factor_tables.proofs.NeedLaws.{few-work}
 use Rattle.factor_numbers.proofs.ExactLaws.{source, laid, diagonal, grown, begun, unstamped, ends}
 use Rattle.factor_numbers.proofs.cores.write_numbers.Goals as goal
@@ -17,13 +17,9 @@ slice_bounds-factor_columns-end c = search rules
 pub slice_bounds-factor_columns-end-2 : goal.slice_bounds-factor_columns-end-2
 slice_bounds-factor_columns-end-2 c = search rules
 
--- the system that is factored
-abbrev the-system : goal.After-factor_columns-arg-11-1 → System
-the-system start = system start.args.dims.now start.args.starts.now start.args.rows.now start.args.values.now start.args.perm.now start.args.late.now start.args.tol
-
 pub factor_columns-r-requires : goal.factor_columns-r-requires
 factor_columns-r-requires c =
-    let a = the-system c in
+    let a = handed c.args.s.now in
     let sound = c.requires.system_sound in
     let room = c.requires.number_room in record { source = source a sound c.args.into.now c.args.upper.now c.args.tree.now c.args.order.now c.args.l_starts.now c.args.l_rows.now c.args.l_offsets.now c.args.sizes.now c.args.bodies.now c.args.unit_starts.now c.args.d_starts.now c.args.next.now c.args.stamps.now c.requires.upper_of.0 c.requires.upper_of.1 c.requires.tabled; rows_laid = laid a sound c.args.into.now c.args.upper.now c.args.tree.now c.args.order.now c.args.l_starts.now c.args.l_rows.now c.args.l_offsets.now c.args.sizes.now c.args.bodies.now c.args.unit_starts.now c.args.d_starts.now c.args.next.now c.args.stamps.now c.requires.upper_of.0 c.requires.upper_of.1 c.requires.tabled c.args.l_values.now c.args.column.now room.of_values room.of_column; diagonal_laid = diagonal a sound c.args.into.now c.args.upper.now c.args.tree.now c.args.order.now c.args.l_starts.now c.args.l_rows.now c.args.l_offsets.now c.args.sizes.now c.args.bodies.now c.args.unit_starts.now c.args.d_starts.now c.args.next.now c.args.stamps.now c.requires.upper_of.0 c.requires.upper_of.1 c.requires.tabled c.args.diag.now c.args.d.now room.of_diag room.of_d; grown = grown a sound c.args.into.now c.args.upper.now c.args.tree.now c.args.order.now c.args.l_starts.now c.args.l_rows.now c.args.l_offsets.now c.args.sizes.now c.args.bodies.now c.args.unit_starts.now c.args.d_starts.now c.args.next.now c.args.stamps.now c.requires.upper_of.0 c.requires.upper_of.1 c.requires.tabled; next = (begun a sound c.args.into.now c.args.upper.now c.args.tree.now c.args.order.now c.args.l_starts.now c.args.l_rows.now c.args.l_offsets.now c.args.sizes.now c.args.bodies.now c.args.unit_starts.now c.args.d_starts.now c.args.next.now c.args.stamps.now c.requires.upper_of.0 c.requires.upper_of.1 c.requires.tabled, room.of_places); stamps_len = (ap length c.requires.tabled.by_stamps ∙ length-replicate _ _, room.of_inverse, unstamped a sound c.args.into.now c.args.upper.now c.args.tree.now c.args.order.now c.args.l_starts.now c.args.l_rows.now c.args.l_offsets.now c.args.sizes.now c.args.bodies.now c.args.unit_starts.now c.args.d_starts.now c.args.next.now c.args.stamps.now c.requires.upper_of.0 c.requires.upper_of.1 c.requires.tabled); in_bounds = (omega arith, omega arith, omega (arith, room.of_column, few-work a.dims sound.plan.sizes sound.plan.blocks)) }
 
@@ -66,12 +62,9 @@ shape_of-d c = c.spoil-3.auto.x ∙ c.factor_columns-r.auto.d
 pub shape_of-cache : goal.shape_of-cache
 shape_of-cache c = c.clear.auto.x ∙ c.factor_columns-r.auto.cache
 
-abbrev the-system-2 : goal.After-slice_known-22-1 → System
-the-system-2 start = system start.args.dims.now start.args.starts.now start.args.rows.now start.args.values.now start.args.perm.now start.args.late.now start.args.tol
-
 pub returns : goal.returns
 returns c =
-    let a = the-system-2 c in
+    let a = handed c.args.s.now in
     let room = c.requires.number_room in
     let call = c.factor_columns-r in
     let left =

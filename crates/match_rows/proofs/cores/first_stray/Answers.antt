@@ -5,7 +5,7 @@ use mathlib.Core.Path.{refl}
 use native.Mathlib.Omega.{arith}
 use lib.ListN.{length-replicate, get_or-replicate}
 use Rattle.tables.proofs.SearchLaws.{searched, passed, failed, ended}
-use Rattle.match_rows.specs.Rows.{column_given}
+use Rattle.match_rows.proofs.FoundLaws.{found-at, found-none}
 use Rattle.match_rows.proofs.cores.first_stray.Goals as goal
 
 pub link_children-requires : goal.link_children-requires
@@ -23,7 +23,7 @@ column_given-requires c =
     record { order_len_bound = (s.order_len_bound.0, s.order_len_bound.1, s.order_len_bound.2); k_in_bounds = (c.loop-k-test.true, s.columns); families = (l.invariant.1, l.invariant.2, l.invariant.3) }
 
 pub returns-then-not-column_given : goal.returns-then-not-column_given
-returns-then-not-column_given c = failed c.loop-k.invariant.0 c.loop-k-test.true c.column_given.ensures.value c.if-not-column_given.true
+returns-then-not-column_given c = found-at _ _ _ _ (failed c.loop-k.invariant.0 c.loop-k-test.true c.column_given.ensures.value c.if-not-column_given.true) c.loop-k-test.true
 
 pub loop-k-preserved : goal.loop-k-preserved
 loop-k-preserved c =
@@ -32,4 +32,4 @@ loop-k-preserved c =
     (passed l.invariant.0 c.loop-k-test.true e.value c.if-not-column_given.false, l.invariant.1, e.seen_len.0, e.seen_len.1)
 
 pub returns : goal.returns
-returns c = ended c.loop-k.invariant.0 (omega arith)
+returns c = found-none _ _ _ (omega (arith, ended c.loop-k.invariant.0 (omega arith)))

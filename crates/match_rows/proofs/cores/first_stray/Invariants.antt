@@ -1,5 +1,5 @@
 -- `match_rows::cores::first_stray` meets its contract: a search, one turn a column. Assumes nothing.
-use Rattle.std.specs.Prelude.{◌≡◌, ℕ, ◌-◌, ◌<◌, ◌≤◌, length}
+use Rattle.std.specs.Prelude.{◌≡◌, ℕ, ◌<◌, ◌≤◌, length}
 use Rattle.graph.specs.Links.{rows_in}
 use Rattle.tables.specs.Verdict.{at}
 use Rattle.tables.proofs.SearchLaws.{Searched}
@@ -10,6 +10,3 @@ abbrev pub invariant-loop-k : goal.invariant-loop-k
 invariant-loop-k l =
     Searched (column_given (given_in l.starts l.rows l.order l.l_starts l.l_rows) l.l_starts l.l_rows) 0 (length l.order) l.k × Families (rows_in l.l_starts l.l_rows) (length l.order) l.head l.sibling
     × (length l.seen ≡ 4096) × ((i : ℕ) → i < 4096 → at l.seen i ≤ l.k)
-
-abbrev pub decreases-loop-k : goal.decreases-loop-k
-decreases-loop-k l = length l.order - l.k

@@ -1,29 +1,18 @@
 -- `match_rows::cores::first_unpassed` meets its contract: the pairs of the columns before c have been passed (`Rowing`). Assumes nothing.
-use Rattle.std.specs.Prelude.{◌≡◌, ◌+◌}
+use Rattle.std.specs.Prelude.{◌≡◌}
 use Prim.Native.Nat.{zero-le}
+use mathlib.Core.Path.{refl, sym, ◌∙◌}
 use native.Mathlib.Omega.{arith}
-use Rattle.tables.specs.Verdict.{at}
+use Rattle.match_rows.proofs.FoundLaws.{some-within, none-past, lowest-of}
 use Rattle.match_rows.proofs.HalvedLaws.{rises-of}
 use Rattle.match_rows.proofs.PairLaws.{rowing-none, rowing-empty, rowing-above, rowing-passed, rowing-down, rowing-all}
 use Rattle.match_rows.proofs.cores.first_unpassed.Goals as goal
-use Rattle.match_rows.proofs.cores.first_unpassed.Goals.{then-from-end+then-parent-least+then-unpassed_in-end, then-from-end+then-parent-least+else-unpassed_in-end, then-from-end+else-parent-least, else-from-end}
+use Rattle.match_rows.proofs.cores.first_unpassed.Goals.{then-from-end+then-parent-least+then-is_some, then-from-end+then-parent-least+else-is_some, then-from-end+else-parent-least, else-from-end}
 
 pub loop-c-init : goal.loop-c-init
 loop-c-init c =
     let a = c.args in
     (zero-le, rowing-none a.l_starts.now a.l_rows.now a.n c.requires)
-
-pub bounds-l_starts-c : goal.bounds-l_starts-c
-bounds-l_starts-c c = omega (arith, c.requires.ordered.entries)
-
-pub bounds-l_starts-c-in-loop-c : goal.bounds-l_starts-c-in-loop-c
-bounds-l_starts-c-in-loop-c c = omega (arith, c.requires.ordered.entries)
-
-pub offset_bounds-l_rows-from : goal.offset_bounds-l_rows-from
-offset_bounds-l_rows-from c = omega (arith, c.wide-end.ensures, c.requires.ordered.inside (c.loop-c.c + 1) (omega arith))
-
-pub bounds-l_rows-from : goal.bounds-l_rows-from
-bounds-l_rows-from c = omega (arith, c.wide-end.ensures, c.requires.ordered.inside (c.loop-c.c + 1) (omega arith))
 
 pub unpassed_in-requires : goal.unpassed_in-requires
 unpassed_in-requires c =
@@ -45,13 +34,13 @@ loop-c-preserved c =
     let starts = a.l_starts.now in
     let rows = a.l_rows.now in
     elim c.if-from-end.branch [
-      | then-from-end+then-parent-least+then-unpassed_in-end w ↦
+      | then-from-end+then-parent-least+then-is_some w ↦
           let k = w.wide-parent.ensures in
           let u = rw (k, from) at w.unpassed_in.ensures in
-          (omega arith, rw (w.least-is, k, from) (rowing-down starts rows a.n s l.c l.least h l.invariant.1 w.unpassed_in.result u (rw (from, end) at w.if-from-end.true) (rw (k, from) at w.if-parent-least.true) (rw end at w.if-unpassed_in-end.true)))
-      | then-from-end+then-parent-least+else-unpassed_in-end w ↦
+          (omega arith, rw (w.least-is, k, from) (rowing-down starts rows a.n s l.c l.least h l.invariant.1 _ refl (rw (from, end) at w.if-from-end.true) (rw (k, from) at w.if-parent-least.true) (some-within _ _ _ _ u (sym w.is_some.ensures ∙ w.if-is_some.true))))
+      | then-from-end+then-parent-least+else-is_some w ↦
           let u = rw (w.wide-parent.ensures, from) at w.unpassed_in.ensures in
-          (omega arith, rw w.least-is (rowing-passed starts rows a.n s l.c l.least h l.invariant.1 w.unpassed_in.result u (rw end at w.if-unpassed_in-end.false)))
+          (omega arith, rw w.least-is (rowing-passed starts rows a.n s l.c l.least h l.invariant.1 _ refl (none-past _ _ _ _ u (sym w.is_some.ensures ∙ w.if-is_some.false))))
       | then-from-end+else-parent-least w ↦ (omega arith, rw w.least-is (rowing-above starts rows a.n s l.c l.least h l.invariant.1 (rw (w.wide-parent.ensures, from) at w.if-parent-least.false)))
       | else-from-end w ↦ (omega arith, rw w.least-is (rowing-empty starts rows a.n s l.c l.least h l.invariant.1 (rw (from, end) at w.if-from-end.false)))
     ]
@@ -61,4 +50,4 @@ returns c =
     let a = c.args in
     let l = c.loop-c in
     let z : l.c ≡ a.n = omega arith in
-    rowing-all a.l_starts.now a.l_rows.now a.n c.requires l.least (rw z at l.invariant.1)
+    rw c.then_some.ensures (lowest-of (rowing-all a.l_starts.now a.l_rows.now a.n c.requires l.least (rw z at l.invariant.1)))

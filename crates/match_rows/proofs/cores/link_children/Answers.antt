@@ -13,24 +13,6 @@ loop-c-init c =
     let s = c.requires in
     (zero-le, families-none _ _ s.head_value.0 s.head_value.1)
 
-pub bounds-l_starts-c : goal.bounds-l_starts-c
-bounds-l_starts-c c = omega (arith, c.requires.n_bound.1.ordered.entries)
-
-pub bounds-l_starts-c-in-loop-c : goal.bounds-l_starts-c-in-loop-c
-bounds-l_starts-c-in-loop-c c = omega (arith, c.requires.n_bound.1.ordered.entries)
-
-pub offset_bounds-l_rows-from : goal.offset_bounds-l_rows-from
-offset_bounds-l_rows-from c =
-    let o = c.requires.n_bound.1.ordered in
-    let k = c.loop-c.c in
-    omega (arith, c.wide-from.ensures, c.wide-end.ensures, o.inside (k + 1) (omega arith))
-
-pub bounds-l_rows-from : goal.bounds-l_rows-from
-bounds-l_rows-from c =
-    let o = c.requires.n_bound.1.ordered in
-    let k = c.loop-c.c in
-    omega (arith, c.wide-from.ensures, c.wide-end.ensures, o.inside (k + 1) (omega arith))
-
 -- the first row of column c is a block
 row_below : (c : goal.After-wide-k) → c.wide-k.result < 4096
 row_below c =
@@ -53,12 +35,6 @@ row_below-2 c =
 
 pub bounds-head-k : goal.bounds-head-k
 bounds-head-k c = row_below-2 c
-
-pub offset_bounds-sibling-c : goal.offset_bounds-sibling-c
-offset_bounds-sibling-c c = omega (arith, c.requires.n_bound.0)
-
-pub bounds-sibling-c : goal.bounds-sibling-c
-bounds-sibling-c c = omega (arith, c.requires.n_bound.0)
 
 pub overflow_cast-head : goal.overflow_cast-head
 overflow_cast-head c = omega (arith, c.requires.n_bound.0)

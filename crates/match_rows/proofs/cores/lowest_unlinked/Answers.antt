@@ -4,6 +4,7 @@ use Prim.Native.Nat.{zero-le}
 use native.Mathlib.Omega.{arith}
 use Rattle.graph.specs.Links.{rows_in}
 use Rattle.tables.specs.Verdict.{at}
+use Rattle.match_rows.proofs.FoundLaws.{lowest-of}
 use Rattle.match_rows.proofs.HalvedLaws.{rises-of}
 use Rattle.match_rows.proofs.PairLaws.{storing-none, storing-next, storing_all}
 use mathlib.Core.Path.{refl}
@@ -15,24 +16,12 @@ loop-c-init c =
     let a = c.args in
     (refl, zero-le, storing-none a.starts.now a.rows.now a.order.now a.inverse.now (length a.order.now) s.columns.0 s.columns.1 (rows_in a.l_starts.now a.l_rows.now))
 
-pub bounds-starts-c : goal.bounds-starts-c
-bounds-starts-c c = omega (arith, c.requires.columns.0.ordered.entries)
-
-pub bounds-starts-c-in-loop-c : goal.bounds-starts-c-in-loop-c
-bounds-starts-c-in-loop-c c = omega (arith, c.requires.columns.0.ordered.entries)
-
 pub loop-u-init : goal.loop-u-init
 loop-u-init c =
     let l = c.loop-c in
     let e = c.wide-u.ensures in
     let f = c.wide-end.ensures in
     (l.invariant.0, f, omega (arith, e), omega (arith, e, f, c.requires.columns.0.ordered.rising l.c (omega arith)), rw e l.invariant.2)
-
-pub offset_bounds-rows-u : goal.offset_bounds-rows-u
-offset_bounds-rows-u c = omega (arith, c.loop-u.invariant.1, c.requires.columns.0.ordered.inside (c.loop-c.c + 1) (omega arith))
-
-pub bounds-rows-u : goal.bounds-rows-u
-bounds-rows-u c = omega (arith, c.loop-u.invariant.1, c.requires.columns.0.ordered.inside (c.loop-c.c + 1) (omega arith))
 
 pub lower_by-least-requires : goal.lower_by-least-requires
 lower_by-least-requires c =
@@ -71,4 +60,4 @@ returns c =
     let a = c.args in
     let l = c.loop-c in
     let z : l.c ≡ length a.order.now = omega (arith, l.invariant.0) in
-    storing_all a.starts.now a.rows.now a.order.now a.inverse.now (length a.order.now) s.columns.0 s.columns.1 (rows_in a.l_starts.now a.l_rows.now) l.least (rw z at l.invariant.2)
+    rw c.then_some.ensures (lowest-of (storing_all a.starts.now a.rows.now a.order.now a.inverse.now (length a.order.now) s.columns.0 s.columns.1 (rows_in a.l_starts.now a.l_rows.now) l.least (rw z at l.invariant.2)))

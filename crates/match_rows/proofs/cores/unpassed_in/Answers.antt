@@ -3,12 +3,10 @@ use Rattle.std.specs.Prelude.{◌+◌, ◌<◌}
 use native.Mathlib.Omega.{arith}
 use Rattle.tables.specs.Verdict.{at}
 use Rattle.tables.proofs.SearchLaws.{ended}
+use Rattle.match_rows.proofs.FoundLaws.{found-at, found-none}
 use Rattle.match_rows.proofs.WalkLaws.{walked_none, walk_over, walk_next, walk_end, walk_lacks, walk_on}
 use Rattle.match_rows.proofs.cores.unpassed_in.Goals as goal
 use Rattle.match_rows.proofs.cores.unpassed_in.Goals.{then-wide-row+else-last-place-2+else-row-wide, else-wide-row}
-
-pub overflow_add-u : goal.overflow_add-u
-overflow_add-u c = omega (arith, c.wide-u.ensures, c.requires.2, c.requires.0.inside.1)
 
 pub loop-u-init : goal.loop-u-init
 loop-u-init c =
@@ -19,19 +17,7 @@ pub returns-then-last-place : goal.returns-then-last-place
 returns-then-last-place c =
     let s = c.requires in
     let g = c.loop-u.invariant in
-    walk_over s.0 s.1 g.2 (omega (arith, g.0)) (omega (arith, g.1))
-
-pub offset_bounds-l_rows-u : goal.offset_bounds-l_rows-u
-offset_bounds-l_rows-u c = omega (arith, c.loop-u.invariant.0, c.requires.0.inside.1)
-
-pub bounds-l_rows-u : goal.bounds-l_rows-u
-bounds-l_rows-u c = omega (arith, c.loop-u.invariant.0, c.requires.0.inside.1)
-
-pub offset_bounds-l_rows-place : goal.offset_bounds-l_rows-place
-offset_bounds-l_rows-place c = omega (arith, c.loop-u.invariant.1, c.requires.1.inside.1)
-
-pub bounds-l_rows-place : goal.bounds-l_rows-place
-bounds-l_rows-place c = omega (arith, c.loop-u.invariant.1, c.requires.1.inside.1)
+    found-at _ _ _ _ (walk_over s.0 s.1 g.2 (omega (arith, g.0)) (omega (arith, g.1))) (omega (arith, g.0))
 
 pub place_from-place-requires : goal.place_from-place-requires
 place_from-place-requires c =
@@ -43,20 +29,14 @@ pub returns-then-last-place-2 : goal.returns-then-last-place-2
 returns-then-last-place-2 c =
     let s = c.requires in
     let g = c.loop-u.invariant in
-    walk_end s.0 s.1 g.2 (omega (arith, g.0)) (rw c.wide-row.ensures at c.place_from-place.ensures) (omega (arith, g.1))
-
-pub offset_bounds-l_rows-place-then-wide-row : goal.offset_bounds-l_rows-place-then-wide-row
-offset_bounds-l_rows-place-then-wide-row c = omega (arith, c.loop-u.invariant.1, c.requires.1.inside.1)
-
-pub bounds-l_rows-place-then-wide-row : goal.bounds-l_rows-place-then-wide-row
-bounds-l_rows-place-then-wide-row c = omega (arith, c.loop-u.invariant.1, c.requires.1.inside.1)
+    found-at _ _ _ _ (walk_end s.0 s.1 g.2 (omega (arith, g.0)) (rw c.wide-row.ensures at c.place_from-place.ensures) (omega (arith, g.1))) (omega (arith, g.0))
 
 pub returns-then-row-wide : goal.returns-then-row-wide
 returns-then-row-wide c =
     let s = c.requires in
     let g = c.loop-u.invariant in
     let row = c.wide-row.ensures in
-    walk_lacks s.0 s.1 g.2 (omega (arith, g.0)) (rw row at c.place_from-place.ensures) (omega (arith, g.1)) (rw (row, c.wide-then-wide-row.ensures) at c.if-row-wide.true)
+    found-at _ _ _ _ (walk_lacks s.0 s.1 g.2 (omega (arith, g.0)) (rw row at c.place_from-place.ensures) (omega (arith, g.1)) (rw (row, c.wide-then-wide-row.ensures) at c.if-row-wide.true)) (omega (arith, g.0))
 
 pub overflow_add-place : goal.overflow_add-place
 overflow_add-place c =
@@ -79,4 +59,6 @@ loop-u-preserved c =
     ]
 
 pub returns : goal.returns
-returns c = ended c.loop-u.invariant.2.walk (omega (arith, c.loop-u.invariant.0))
+returns c =
+    let g = c.loop-u.invariant in
+    found-none _ _ _ (omega (arith, g.0, ended g.2.walk (omega (arith, g.0))))

@@ -20,8 +20,8 @@ one_more : {k m n : ℕ} → k ≡ m → m ≡ n + 1 → n ≤ k
 one_more e f = omega arith
 
 -- L's row table is too short
-pub returns-then-l_rows-need : goal.returns-then-l_rows-need
-returns-then-l_rows-need c =
+pub returns-then-o-need-clause-plans : goal.returns-then-o-need-clause-plans
+returns-then-o-need-clause-plans c =
     let x = c.requires.exact in
     let found = c.analyze-found in
     let zero = c.clear_plan in
@@ -39,18 +39,25 @@ returns-then-l_rows-need c =
     })
     (omega (arith, need)) (ap (short_buffer 3) need) refl refl refl refl
 
-pub store-requires : goal.store-requires
-store-requires c =
+pub store-requires-clause-tree : goal.store-requires-clause-tree
+store-requires-clause-tree c =
     let x = c.requires.exact in
     let found = c.analyze-found in
-    let asks = store_asks _ found.new.count found.new.heads found.new.into found.new.upper found.result found.ensures c.requires.plan_sound.blocks (one_more found.auto.heads x.heads)
-    found.new.stamps found.new.inverse c.args.l_starts.now (take found.result.counts.stored c.args.l_rows.now) (found.auto.stamps ∙ x.stamps) (found.auto.inverse ∙ x.inverse) x.l_starts
-    (length-take-le found.result.counts.stored c.args.l_rows.now (omega arith)) in
-    record { tree = asks.0; stamps_len = asks.1; l_rows_len = asks.2 }
+    (store_asks _ found.new.count found.new.heads found.new.into found.new.upper found.result found.ensures c.requires.plan_sound.blocks (one_more found.auto.heads x.heads)
+    found.new.stamps found.new.inverse c.args.o.now.l_starts.now (take found.result.counts.stored c.args.o.now.l_rows.now) (found.auto.stamps ∙ x.stamps) (found.auto.inverse ∙ x.inverse) x.l_starts
+    (length-take-le found.result.counts.stored c.args.o.now.l_rows.now (omega arith))).0
+
+pub store-requires-clause-l_rows_len : goal.store-requires-clause-l_rows_len
+store-requires-clause-l_rows_len c =
+    let x = c.requires.exact in
+    let found = c.analyze-found in
+    (store_asks _ found.new.count found.new.heads found.new.into found.new.upper found.result found.ensures c.requires.plan_sound.blocks (one_more found.auto.heads x.heads)
+    found.new.stamps found.new.inverse c.args.o.now.l_starts.now (take found.result.counts.stored c.args.o.now.l_rows.now) (found.auto.stamps ∙ x.stamps) (found.auto.inverse ∙ x.inverse) x.l_starts
+    (length-take-le found.result.counts.stored c.args.o.now.l_rows.now (omega arith))).2
 
 -- the plan
-pub returns : goal.returns
-returns c =
+pub returns-clause-plans : goal.returns-clause-plans
+returns-clause-plans c =
     let x = c.requires.exact in
     let found = c.analyze-found in
     let store = c.store in
@@ -74,5 +81,5 @@ returns c =
     c.move_late.ensures
     (c.copy.ensures ∙ (ap (λ (m : ℕ). take m found.new.heads) x.parents ∙ found.ensures.analyzed.parents))
     (starts-told _ found.new.count found.new.heads found.new.into found.new.upper found.result found.ensures few room store.new.l_starts store.ensures.l_starts_after)
-    (front-told store.new.l_rows c.args.l_rows.now need (rows_told _ found.new.count found.new.heads found.new.into found.new.upper found.result found.ensures few room store.new.l_rows store.ensures.l_rows_after))
+    (front-told store.new.l_rows c.args.o.now.l_rows.now need (rows_told _ found.new.count found.new.heads found.new.into found.new.upper found.result found.ensures few room store.new.l_rows store.ensures.l_rows_after))
     few

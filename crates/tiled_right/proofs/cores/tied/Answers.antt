@@ -1,4 +1,4 @@
--- `tiled_right::cores::tied` meets its contract: by which way it is read. Assumes nothing.
+-- `tiled_right::cores::tied` meets its contract. Assumes nothing.
 use Rattle.tiled_right.proofs.cores.tied.Goals as goal
 
 pub returns-then-after : goal.returns-then-after

@@ -1,2 +1,0 @@
--- The written definitions that the contracts cite.
-pub mod Made
