@@ -1,5 +1,6 @@
 """The proved library compiled so that its parts can be told apart: the compiler joins nearly all of a call into one function, and a profile of
 that says nothing. Here the functions named below are kept by themselves, which costs a few instructions at each call of one. For bench/run."""
+import os
 import pathlib
 import re
 import shutil
@@ -12,6 +13,10 @@ import beside
 sys.path.append(str(beside.REPOSITORY / "tools"))
 import archive as archives  # noqa: E402
 
+# Callgrind counts each turn of the processor's own fill, one a byte, as an instruction, so where instructions are counted the C library is told to fill by
+# stores, as it does with fewer bytes.
+COUNTING = {"GLIBC_TUNABLES": "glibc.cpu.x86_rep_stosb_threshold=1073741824"}
+
 # the functions that are kept apart, by the archive that has them
 KEPT = {
     "plan_abi": [
@@ -23,7 +28,7 @@ KEPT = {
         "reach::cores::scan", "load_column::cores::load_column", "work_column::cores::work_column", "row_products::cores::apply_rows",
         "column_products::cores::scaled_by_d", "tiled_product::cores::sub_mat_mat_t_core", "tiled_multiply::cores::multiply",
         "block_diag_ldlt::cores::decompose_core", "tiled_right::cores::ldlt_right_matsolve_tiled", "finish_column::cores::finish_column",
-        "keep_column::cores::keep_column", "factor_columns::cores::factor_columns", "scratch::cores::clear_factor",
+        "keep_column::cores::keep_column", "factor_columns::cores::factor_columns", "factor_cleared::cores::clear_work",
     ],
     "solve_abi": [
         "solve_checks::check_solve", "factor_order::cores::area_under", "factor_order::cores::order_is", "factor_order::cores::offsets_are",
@@ -121,7 +126,7 @@ def counted(program, part, night, out):
     """Instructions of one call by what they are counted as, and their sum."""
     kept = out / "apart" / "callgrind.out"
     command = ["valgrind", "--tool=callgrind", "--toggle-collect=counted", f"--callgrind-out-file={kept}", program, "ours", part] + night
-    beside.run(command, stdout=subprocess.DEVNULL, stderr=subprocess.DEVNULL)
+    beside.run(command, env={**os.environ, **COUNTING}, stdout=subprocess.DEVNULL, stderr=subprocess.DEVNULL)
     text = subprocess.run(["callgrind_annotate", "--threshold=100", str(kept)], check=True, capture_output=True, text=True).stdout
     of = {word: name for name, words in PARTS[part].items() for word in words}
     sums = dict.fromkeys([*PARTS[part], "memory cleared and copied", "all else"], 0)

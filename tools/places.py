@@ -13,7 +13,7 @@ import re
 import sys
 
 os.chdir(os.path.join(os.path.dirname(os.path.abspath(__file__)), ".."))
-FN = re.compile(r"^( *)(pub(?:\(crate\))? )?(extern \"C\" )?fn (\w+)(<[^(]*>)?\(([^{;]*?)\)(?: -> ([^{;]*?))?\s*\n?((?:\s+(?:requires|ensures)[^\n]*\n|\s*//[^\n]*\n)*)\s*\{", re.M)
+FN = re.compile(r"^( *)(pub(?:\(crate\))? )?(extern \"C\" )?fn (\w+)(<[^(]*>)?\(((?:[^{;\[\]]|\[(?:[^\[\]]|\[[^\[\]]*\])*\])*?)\)(?: -> ((?:[^{;\[\]]|\[(?:[^\[\]]|\[[^\[\]]*\])*\])*?))?\s*\n?((?:\s+(?:requires|ensures)[^\n]*\n|\s*//[^\n]*\n)*)\s*\{", re.M)
 
 
 def sources():
@@ -97,7 +97,7 @@ def twins():
 
 def loops():
     for path, text in sources():
-        for m in re.finditer(r"^ *(while|loop)\b[^\n]*", text, re.M):
+        for m in re.finditer(r"^ *(?:'\w+: )?(while|loop)\b[^\n]*", text, re.M):
             yield f"{path}:{line(text, m.start())}: {m.group(0).strip()}"
 
 

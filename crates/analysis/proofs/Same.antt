@@ -1,10 +1,10 @@
 -- An upper pattern that lists the links of `linked` says the same of the tree and of L's columns as `linked` itself. Assumes nothing.
-use Rattle.std.specs.Prelude.{◌≡◌, ℕ, zero, suc, ◌+◌, ◌-◌, ◌<◌, ◌≤◌, Bool, true, false, ◌||◌, T, ltb, List, [], ◌∷◌, ◌++◌, map, length, get_or}
+use Rattle.std.specs.Prelude.{◌≡◌, ℕ, zero, suc, ◌+◌, ◌-◌, ◌<◌, ◌≤◌, Bool, ◌||◌, T, ltb, List, [], ◌∷◌, ◌++◌, map, length, get_or}
 use mathlib.Core.Path.{refl, sym, ap, subst, ◌∙◌}
 use native.Mathlib.Omega.{arith}
 use native.Mathlib.Decide.{dec_lt}
 use lib.Dec.{lt→ltb}
-use Rattle.graph.specs.Sets.{elem, any, keep, filter, from, between, sum, gather, Inc}
+use Rattle.graph.specs.Sets.{elem, any, filter, from, between, sum, gather, Inc}
 use Rattle.graph.specs.Symbolic.{climbs, reach, parents, column, columns}
 use Rattle.graph.specs.Symbolic as L
 use Rattle.graph.specs.Liu.{Forest}

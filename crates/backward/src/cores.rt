@@ -1,77 +1,32 @@
 // The backward part of the solve, where the factor's tables are known to be good. y holds the vector by new number, block k from starts[k] on.
-ghost use Rattle.std.specs.Prelude.{◌≡◌, ◌*◌, ◌<◌, length};
-ghost use Rattle.scalar.specs.Block.{within};
-ghost use Rattle.tables.specs.Verdict.{at};
-ghost use Rattle.kernel_vector_transpose.specs.VectorTranspose.{sub_mat_transpose_plus_vec};
-ghost use Rattle.block_product.specs.Working.{slot};
-ghost use Rattle.layout.specs.Layout.{tables, RowsLaid, work_need};
-ghost use Rattle.solution.specs.Flat.{BlocksLaid, RowFits};
-ghost use Rattle.backward.specs.Backward.{Backwards, BackwardsColumn};
+// Kept: that the factor's rows are laid out in a vector so long, as a fact: the vector is lent apart from the rows, so neither could hold it.
+ghost use Rattle.std.specs.Prelude.{◌≡◌, length};
+ghost use Rattle.sweep.specs.Sweep.{Laid, rows_of};
+ghost use Rattle.backward.specs.Backward.{Backwards, backward_pass};
 
+use sweep::cores::sweep;
+use sweep::{Direction, Rows};
 use tiled_vector::cores::sub_columns;
 
-// All columns, descending.
-pub fn backward(
-    sizes: &[u32],
-    starts: &[u32],
-    l_starts: &[u32],
-    l_rows: &[u32],
-    l_offsets: &[u32],
-    l_values: &[f64],
-    y: &mut [f64],
-)
-    requires { RowsLaid (tables sizes.now l_starts.now l_rows.now l_offsets.now) (length sizes.now) (length l_values.now) (work_need sizes.now) × BlocksLaid sizes.now starts.now (length y.old) }
-    ensures { Backwards (tables sizes.now l_starts.now l_rows.now l_offsets.now) starts.now l_values.now (length sizes.now) y.old y.new }
-{
-    let n = sizes.len();
-    for t in 0..n {
-        let j = n - 1 - t;
-        backward_column(sizes, starts, l_starts, l_rows, l_offsets, j, l_values, y);
+// Columns descending. Block j loses L(i, j)ᵀ y(i), for each row i of column j.
+struct Up;
+
+impl Direction for Up {
+    ghost pass = { backward_pass };
+
+    fn column(n: usize, t: usize) -> usize {
+        n - 1 - t
+    }
+
+    fn row(h: usize, w: usize, a: &[f64], y: &mut [f64], s: usize, t: usize) {
+        sub_columns(h, w, a, y, s, t);
     }
 }
 
-// Block j loses L(i, j)ᵀ y(i), for each row i of column j, ascending.
-fn backward_column(
-    sizes: &[u32],
-    starts: &[u32],
-    l_starts: &[u32],
-    l_rows: &[u32],
-    l_offsets: &[u32],
-    j: usize,
-    l_values: &[f64],
-    y: &mut [f64],
-)
-    requires { RowsLaid (tables sizes.now l_starts.now l_rows.now l_offsets.now) (length sizes.now) (length l_values.now) (work_need sizes.now) × BlocksLaid sizes.now starts.now (length y.old) × (j < length sizes.now) }
-    ensures { BackwardsColumn (tables sizes.now l_starts.now l_rows.now l_offsets.now) starts.now l_values.now j y.old y.new }
+// All columns.
+pub fn backward(r: &Rows, y: &mut [f64])
+    requires { Laid r.now (length y.old) }
+    ensures { Backwards (rows_of r.now) r.now.starts.now r.now.l_values.now (length r.now.sizes.now) y.old y.new }
 {
-    let w = sizes[j] as usize;
-    let s = starts[j] as usize;
-    let from = l_starts[j] as usize;
-    let end = l_starts[j + 1] as usize;
-    for u in from..end {
-        backward_row(sizes, starts, l_rows, l_offsets, s, w, u, l_values, y);
-    }
-}
-
-// The row at place u of the tables, of a column whose block has the w numbers of y from s on.
-fn backward_row(
-    sizes: &[u32],
-    starts: &[u32],
-    l_rows: &[u32],
-    l_offsets: &[u32],
-    s: usize,
-    w: usize,
-    u: usize,
-    l_values: &[f64],
-    y: &mut [f64],
-)
-    requires { RowFits sizes.now starts.now l_rows.now l_offsets.now s w u (length l_values.now) (length y.old) }
-    ensures { y.new ≡ within s w (λ z. sub_mat_transpose_plus_vec (at sizes.now (at l_rows.now u)) w z (slot (at l_offsets.now u) (at sizes.now (at l_rows.now u) * w) l_values.now) (slot (at starts.now (at l_rows.now u)) (at sizes.now (at l_rows.now u)) y.old)) y.old }
-{
-    let i = l_rows[u] as usize;
-    let h = sizes[i] as usize;
-    let t = starts[i] as usize;
-    let o = l_offsets[u] as usize;
-    let o_end = o + h * w;
-    sub_columns(h, w, &l_values[o..o_end], y, s, t);
+    sweep::<Up>(r, y);
 }

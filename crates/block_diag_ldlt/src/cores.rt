@@ -54,10 +54,5 @@ pub fn decompose_core(
 fn is_poor(r: LdltResult) -> bool
     ensures { result ≡ is_poor r }
 {
-    let kind = r.definiteness;
-    match kind {
-        Definiteness::PositiveDefinite => false,
-        Definiteness::PositiveSemiDefinite => false,
-        Definiteness::Indefinite => r.pivot_condition < 1e-10,
-    }
+    r.definiteness == Definiteness::Indefinite && r.pivot_condition < 1e-10
 }

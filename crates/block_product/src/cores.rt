@@ -1,4 +1,5 @@
 // One block product, where every block is known to lie in its slice.
+// Kept: that w is not 0 and how long a, b, d and q are, which other contracts ask too: it is said of slices that are lent beside their sizes.
 ghost use Rattle.std.specs.Prelude.{◌≡◌, ◌+◌, ◌*◌, ◌^◌, ◌<◌, ◌≤◌, length};
 ghost use Rattle.tables.specs.Verdict.{at};
 ghost use Rattle.machine.specs.Machine.{mat_product};
@@ -8,26 +9,33 @@ ghost use Rattle.block_product.specs.Working.{OneProduct};
 use tiled_multiply::cores::multiply;
 use tiled_product::cores::{sub_mat_mat_t_core, times_diag_core};
 
-// Block (i, j), which lies in the working column c from `place` on, loses Q(i) d Q(j)ᵀ. qi is Q(i) and qj is Q(j) d, which serves all
-// rows i. The count comes back one greater.
+// Column j, which is being worked, and a column k that reaches it.
+#[derive(Clone, Copy, Drop)]
+pub struct Pair<'a> {
+    // The dimension of each block.
+    pub sizes: &'a [u32],
+    pub j: usize,
+    pub k: usize,
+}
+
+// Block (i, j), which lies in the working column c from `place` on, loses Q(i) d Q(j)ᵀ. qj is Q(j) d, which serves all rows i, and qi
+// is Q(i). The count comes back one greater.
 pub fn block_product(
-    sizes: &[u32],
+    p: &Pair,
     i: usize,
-    j: usize,
-    k: usize,
-    qi: &[f64],
     qj: &[f64],
+    qi: &[f64],
     c: &mut [f64],
     place: usize,
     count: u64,
 ) -> u64
-    requires i_in_bounds { (i < length sizes.now) × (j < length sizes.now) × (k < length sizes.now) × (count + 1 < 2 ^ 64) }
-    requires qi_len { (length qi.now ≡ at sizes.now i * at sizes.now k) × (length qj.now ≡ at sizes.now j * at sizes.now k) × (place + at sizes.now i * at sizes.now j ≤ length c.old) }
-    ensures { OneProduct (at sizes.now) i j k place qi.now qj.now c.old count c.new result }
+    requires i_in_bounds { (i < length p.now.sizes.now) × (p.now.j < length p.now.sizes.now) × (p.now.k < length p.now.sizes.now) × (count + 1 < 2 ^ 64) }
+    requires qi_len { (length qi.now ≡ at p.now.sizes.now i * at p.now.sizes.now p.now.k) × (length qj.now ≡ at p.now.sizes.now p.now.j * at p.now.sizes.now p.now.k) × (place + at p.now.sizes.now i * at p.now.sizes.now p.now.j ≤ length c.old) }
+    ensures { OneProduct (at p.now.sizes.now) i p.now.j p.now.k place qi.now qj.now c.old count c.new result }
 {
-    let hi = sizes[i] as usize;
-    let hj = sizes[j] as usize;
-    let wk = sizes[k] as usize;
+    let hi = p.sizes[i] as usize;
+    let hj = p.sizes[p.j] as usize;
+    let wk = p.sizes[p.k] as usize;
     let end = place + hi * hj;
     sub_mat_mat_t_core(hi, hj, wk, &mut c[place..end], qi, qj);
     count + 1

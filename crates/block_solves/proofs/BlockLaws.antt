@@ -1,4 +1,4 @@
--- One block is solved (`block-done`, `unit-inside`, `unit-next`), and the loop over the blocks. Assumes nothing.
+-- One block is solved (`block_fits`, `block-done`, `unit-next`), and the loop over the blocks. Assumes nothing.
 use Rattle.std.specs.Prelude.{◌≡◌, ℕ, ◌+◌, ◌*◌, ◌<◌, ◌≤◌, List, length}
 use mathlib.Core.Path.{refl, sym, ap, subst, ◌∙◌}
 use native.Mathlib.Omega.{arith}
@@ -16,7 +16,7 @@ use Rattle.layout.specs.Layout.{squares, unit_starts_of, DiagonalLaid}
 use Rattle.layout.proofs.DiagonalLaws.{length-squares, squares-at}
 use Rattle.solution.specs.Solution.{solved_block, solved_blocks}
 use Rattle.solution.specs.Flat.{BlocksLaid, ShowsVector}
-use Rattle.solution.proofs.VectorLaws.{shows-within}
+use Rattle.solution.proofs.VectorLaws.{block_inside, shows-within}
 use Rattle.block_solves.specs.Blocks.{Solves, SolvesBlock}
 
 -- ---- where the unit factors begin
@@ -31,11 +31,18 @@ module _ (sizes : List ℕ) where
       omega (arith, starts-at (squares sizes) j (omega arith), starts-at (squares sizes) (j + 1) (omega arith), before-next (squares sizes) j, squares-at sizes j)
 
 module _ {sizes starts : List ℕ} {diag d : ℕ} (laid : DiagonalLaid sizes (unit_starts_of sizes) starts (length sizes) diag d) (j : ℕ) (h : j < length sizes) where
-  pub unit-inside : at (unit_starts_of sizes) j + at sizes j * at sizes j ≤ diag
+  unit-inside : at (unit_starts_of sizes) j + at sizes j * at sizes j ≤ diag
   unit-inside = omega (arith, laid.unit j (length sizes) h (omega arith), laid.units)
 
-  pub pivots-inside : at starts j + at sizes j ≤ d
+  pivots-inside : at starts j + at sizes j ≤ d
   pivots-inside = omega (arith, laid.pivots j (length sizes) h (omega arith), laid.all_pivots)
+
+-- block j lies in y, its d in d, its unit factor in diag
+pub block_fits : {sizes starts : List ℕ} {diag d y : ℕ} → DiagonalLaid sizes (unit_starts_of sizes) starts (length sizes) diag d → BlocksLaid sizes starts y
+    → (j unit : ℕ) → j < length sizes → unit ≡ at (unit_starts_of sizes) j
+    → (at starts j + at sizes j ≤ y) × (at starts j + at sizes j ≤ d) × (unit + at sizes j * at sizes j ≤ diag)
+block_fits diagonal blocks j unit h e =
+    (block_inside blocks j h, pivots-inside diagonal j h, omega (arith, e, unit-inside diagonal j h))
 
 module _ (sizes starts : List ℕ) (diag d : List Float) where
   -- ---- one block
@@ -62,6 +69,3 @@ module _ (sizes starts : List ℕ) (diag d : List Float) where
   blocks_more j y y' y'' before one col held x shown =
       subst (ShowsVector sizes starts y'') (steps-more (solved_block (at sizes) col) j x (steps (solved_block (at sizes) col) j x) refl)
       (one col held (steps (solved_block (at sizes) col) j x) (before col held x shown))
-
-  pub blocks-all : (m j : ℕ) (y y' : List Float) → j ≡ m → Solves sizes starts diag d j y y' → Solves sizes starts diag d m y y'
-  blocks-all m j y y' e all = subst (λ (k : ℕ). Solves sizes starts diag d k y y') e all

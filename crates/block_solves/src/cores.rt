@@ -1,4 +1,5 @@
 // The blocks of the solve, where the tables are known to be good. y holds the vector by new number, block k from starts[k] on.
+// Kept: that j is a block is about the number that is handed in beside the list.
 ghost use Rattle.std.specs.Prelude.{◌≡◌, ◌+◌, ◌<◌, length};
 ghost use Rattle.tables.specs.Verdict.{at};
 ghost use Rattle.scalars.specs.Scalars.{scalar_starts};

@@ -1,4 +1,5 @@
--- The products by one column k: the tables' places `from` to `end` as lent parts. Assumes nothing.
+-- The products by one column k: the tables' places `from` to `end` as lent parts. And what is lent for a column, still the same after two calls.
+-- Assumes nothing.
 use Rattle.std.specs.Prelude.{◌≡◌, ℕ, ◌+◌, ◌-◌, ◌*◌, ◌<◌, ◌≤◌, List, length}
 use mathlib.Core.Path.{sym, ap, ◌∙◌}
 use native.Mathlib.Omega.{arith}
@@ -9,7 +10,9 @@ use Rattle.machine.specs.Machine.{State, column_at, mat_product}
 use Rattle.block_product.specs.Working.{slot}
 use Rattle.block_product.proofs.SlotLaws.{at_slot, slot-length}
 use Rattle.row_products.specs.Rows.{RowsFit, RowProducts}
-use Rattle.column_products.specs.Columns.{Plan, size_of, place_of, Holds, Kept, PlacesFit, ScaledByD, ColumnProducts}
+use Rattle.lists.specs.declared.Tables.{Tables}
+use Rattle.column_products.specs.declared.cores.Working.{Working}
+use Rattle.column_products.specs.Columns.{Plan, plan_of, size_of, place_of, Holds, Kept, PlacesFit, ScaledByD, ColumnProducts, SameWorking}
 
 module _ (p : Plan) (j k from end : ℕ) (le : from ≤ end) where
   -- the lent parts of the tables
@@ -67,3 +70,19 @@ module _ (p : Plan) (j k from end : ℕ) (le : from ≤ end) where
             at p.l_offsets from + size_of p j * size_of p k ≤ length cache →
             slot (at p.l_offsets from) (size_of p j * size_of p k) cache ≡ mat_product (size_of p j) (size_of p k) (size_of p k) (slot (at p.l_offsets from) (size_of p j * size_of p k) vs) (slot (at p.unit_starts k) (size_of p k * size_of p k) diag)
         first-kept s holds kept = rw (first s holds, holds.by_unit) (rw at_j at (kept from (omega arith) lt))
+
+-- ---- what is lent, after a call
+
+module _ {w x : Working} (same : SameWorking w x) where
+  pub same-after : {y : Working} → SameWorking x y → SameWorking w y
+  same-after next =
+      record {
+        places = (next.places.0 ∙ same.places.0, next.places.1 ∙ same.places.1);
+        qj = (next.qj.0 ∙ same.qj.0, next.qj.1 ∙ same.qj.1);
+        qi = (next.qi.0 ∙ same.qi.0, next.qi.1 ∙ same.qi.1);
+        c = (next.c.0 ∙ same.c.0, next.c.1 ∙ same.c.1);
+      }
+
+  pub places-after : (t : Tables) (j k f f' e v : ℕ) → f' ≡ f → x.places.now ≡ w.places.now → PlacesFit (plan_of t w.places.now) j k f e v (length w.qi.now) (length w.c.now)
+      → PlacesFit (plan_of t x.places.now) j k f' e v (length x.qi.now) (length x.c.now)
+  places-after t j k f f' e v is kept fits = rw (is, kept, same.qi.1, same.c.1) fits

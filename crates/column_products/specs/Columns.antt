@@ -7,6 +7,8 @@ use Rattle.tables.specs.Verdict.{at}
 use Rattle.tiled_product.specs.Tiled.{times_diag}
 use Rattle.machine.specs.Machine.{State, Column, column_at, mat_product, scaled, products}
 use Rattle.block_product.specs.Working.{slot, Apart, Shows}
+use Rattle.lists.specs.declared.Tables.{Tables}
+use Rattle.column_products.specs.declared.cores.Working.{Working}
 
 -- L(j, k), of h rows and w columns, stands in `values` from o on. If the cache, where it is long enough, has Q(j) at the same place, then q is Q(j) d.
 abbrev pub ScaledByD : (h w o : ℕ) (values cache unit d q : List Float) → Type 0
@@ -27,6 +29,17 @@ pub record Plan : Type 0 where
 abbrev pub plan : (sizes places l_rows l_offsets unit_starts d_starts : List ℕ) → Plan
 plan sizes places l_rows l_offsets unit_starts d_starts =
     record { sizes = sizes; places = places; l_rows = l_rows; l_offsets = l_offsets; unit_starts = unit_starts; d_starts = d_starts }
+
+-- the same of the struct, with the places of a working column
+abbrev pub plan_of : Tables → (places : List ℕ) → Plan
+plan_of t places = plan t.sizes.now places t.l_rows.now t.l_offsets.now t.unit_starts.now t.d_starts.now
+
+-- what is lent for a column is still the same, and as long
+pub record SameWorking (w x : Working) : Type 0 where
+  pub places : (x.places.ghost_name ≡ w.places.ghost_name) × (length x.places.now ≡ length w.places.now)
+  pub qj : (x.qj.ghost_name ≡ w.qj.ghost_name) × (length x.qj.now ≡ length w.qj.now)
+  pub qi : (x.qi.ghost_name ≡ w.qi.ghost_name) × (length x.qi.now ≡ length w.qi.now)
+  pub c : (x.c.ghost_name ≡ w.c.ghost_name) × (length x.c.now ≡ length w.c.now)
 
 module _ (p : Plan) where
   -- a block's dimension, and where it begins in the working column

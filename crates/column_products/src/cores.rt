@@ -1,95 +1,89 @@
 // The block products of column j by column k, where the plan's tables are known to be good.
-ghost use Rattle.std.specs.Prelude.{◌≡◌, ◌+◌, ◌-◌, ◌*◌, ◌^◌, ◌<◌, ◌≤◌, length};
+// Kept: that w is not 0 and how long d is, which other contracts ask too: it is said of a slice that is lent beside a size.
+ghost use Rattle.std.specs.Prelude.{◌≡◌, ◌+◌, ◌-◌, ◌*◌, ◌^◌, ◌<◌, ◌≤◌, length, take};
 ghost use Rattle.tables.specs.Verdict.{at};
-ghost use Rattle.column_products.specs.Columns.{plan, PlacesFit, FactorsFit, ScaledByD, ColumnProducts};
+ghost use Rattle.column_products.specs.Columns.{plan_of, PlacesFit, FactorsFit, ScaledByD, ColumnProducts, SameWorking};
 
-use block_product::cores::multiply_diag;
-use row_products::cores::apply_rows;
+use block_product::cores::{Pair, multiply_diag};
+use lists::{Numbers, Tables};
+use row_products::cores::{Held, Rows, apply_rows};
 use scalar::cores::copy;
 use tiled_product::cores::times_diag_core;
 
-// By column k, whose row j stands at place `from` of the tables, and whose last row before `end`. Q(j) d is made once, and each Q that the
-// cache has, Q(j) among them, is taken from it.
-pub fn apply_column(
-    sizes: &[u32],
-    places: &[u32],
-    l_rows: &[u32],
-    l_offsets: &[u32],
-    unit_starts: &[u32],
-    d_starts: &[u32],
-    j: usize,
-    k: usize,
-    from: usize,
-    end: usize,
-    values: &[f64],
-    diag: &[f64],
-    d: &[f64],
-    cache: &[f64],
-    qj: &mut [f64],
-    qi: &mut [f64],
-    c: &mut [f64],
-    count: u64,
-) -> u64
-    requires places_fit { PlacesFit (plan sizes.now places.now l_rows.now l_offsets.now unit_starts.now d_starts.now) j k from end (length values.now) (length qi.old) (length c.old) }
-    requires factors_fit { FactorsFit (plan sizes.now places.now l_rows.now l_offsets.now unit_starts.now d_starts.now) j k (length diag.now) (length d.now) (length qj.old) }
-    requires from_lt_end { (from < end) × (at l_rows.now from ≡ j) × (count + (end - from) < 2 ^ 64) }
-    ensures { ColumnProducts (plan sizes.now places.now l_rows.now l_offsets.now unit_starts.now d_starts.now) j k from end values.now diag.now d.now cache.now c.old count c.new result }
-{
-    let hj = sizes[j] as usize;
-    let wk = sizes[k] as usize;
-    let room = hj * wk;
-    let o = l_offsets[from] as usize;
-    let u = unit_starts[k] as usize;
-    let u_end = u + wk * wk;
-    let s = d_starts[k] as usize;
-    let s_end = s + wk;
-    scaled_by_d(
-        hj,
-        wk,
-        o,
-        values,
-        cache,
-        &diag[u..u_end],
-        &d[s..s_end],
-        &mut qj[..room],
-    );
-    apply_rows(
-        sizes,
-        places,
-        &l_rows[from..end],
-        &l_offsets[from..end],
-        j,
-        k,
-        values,
-        cache,
-        &diag[u..u_end],
-        &qj[..room],
-        qi,
-        c,
-        count,
-    )
+// The column being worked, and the rooms for its products.
+#[derive(Drop)]
+pub struct Working<'a> {
+    // Where block (i, j) begins in the column, by i.
+    pub places: &'a mut [u32],
+    // For Q(j) d, and for Q(i).
+    pub qj: &'a mut [f64],
+    pub qi: &'a mut [f64],
+    pub c: &'a mut [f64],
 }
 
-// q becomes Q(j) d, where L(j, k), of h rows and w columns, begins at o in `values`: with Q(j) from the cache, where it stands as L(j, k) does in
-// `values`, or worked out where the cache has no place for it.
-fn scaled_by_d(
-    h: usize,
-    w: usize,
-    o: usize,
-    values: &[f64],
-    cache: &[f64],
-    unit: &[f64],
-    d: &[f64],
-    q: &mut [f64],
-)
-    requires { (0 < w) × (o + h * w ≤ length values.now) × (length unit.now ≡ w * w) × (length d.now ≡ w) × (length q.old ≡ h * w) }
-    ensures { ScaledByD h w o values.now cache.now unit.now d.now q.new }
+// Rows of column k: those at places `from` to `end` of the tables.
+#[derive(Clone, Copy, Drop)]
+pub struct Part {
+    pub k: usize,
+    pub from: usize,
+    pub end: usize,
+}
+
+// By column k, whose row j stands at place `from` of the tables, and whose last row before `end`. Q(j) d is made once, and each Q that the
+// cache has, Q(j) among them, is taken from it.
+pub fn apply_column(t: &Tables, f: &Numbers, j: usize, p: &Part, w: &mut Working, count: u64) -> u64
+    requires places_fit { PlacesFit (plan_of t.now w.old.places.now) j p.now.k p.now.from p.now.end (length f.now.l_values.now) (length w.old.qi.now) (length w.old.c.now) }
+    requires factors_fit { FactorsFit (plan_of t.now w.old.places.now) j p.now.k (length f.now.diag.now) (length f.now.d.now) (length w.old.qj.now) }
+    requires from_lt_end { (p.now.from < p.now.end) × (at t.now.l_rows.now p.now.from ≡ j) × (count + (p.now.end - p.now.from) < 2 ^ 64) }
+    ensures products { ColumnProducts (plan_of t.now w.old.places.now) j p.now.k p.now.from p.now.end f.now.l_values.now f.now.diag.now f.now.d.now f.now.cache.now w.old.c.now count w.new.c.now result }
+    ensures places { w.new.places.now ≡ w.old.places.now }
+    ensures same { SameWorking w.old w.new }
 {
-    let end = o + h * w;
-    if end <= cache.len() {
-        copy(&cache[o..end], q);
-        times_diag_core(h, w, d, q);
+    let places = &mut *w.places;
+    let qj = &mut *w.qj;
+    let qi = &mut *w.qi;
+    let c = &mut *w.c;
+    let k = p.k;
+    let hj = t.sizes[j] as usize;
+    let wk = t.sizes[k] as usize;
+    let room = hj * wk;
+    let o = t.l_offsets[p.from] as usize;
+    let u = t.unit_starts[k] as usize;
+    let u_end = u + wk * wk;
+    let s = t.d_starts[k] as usize;
+    let s_end = s + wk;
+    let pair = Pair {
+        sizes: t.sizes,
+        j,
+        k,
+    };
+    let held = Held {
+        pair,
+        values: &f.l_values[..],
+        cache: &f.cache[..],
+        unit: &f.diag[u..u_end],
+    };
+    scaled_by_d(hj, wk, o, &held, &f.d[s..s_end], qj);
+    let rows = Rows {
+        rows: &t.l_rows[p.from..p.end],
+        offsets: &t.l_offsets[p.from..p.end],
+    };
+    let by = &*qj;
+    apply_rows(&held, &rows, &places[..], &by[..room], qi, c, count)
+}
+
+// q begins with Q(j) d then, where L(j, k), of h rows and w columns, begins at o in L's values: with Q(j) from the cache, where it stands as
+// L(j, k) does there, or worked out where the cache has no place for it.
+fn scaled_by_d(h: usize, w: usize, o: usize, held: &Held, d: &[f64], q: &mut [f64])
+    requires { (0 < w) × (o + h * w ≤ length held.now.values.now) × (length held.now.unit.now ≡ w * w) × (length d.now ≡ w) × (h * w ≤ length q.old) }
+    ensures { ScaledByD h w o held.now.values.now held.now.cache.now held.now.unit.now d.now (take (h * w) q.new) }
+{
+    let room = h * w;
+    let end = o + room;
+    if end <= held.cache.len() {
+        copy(&held.cache[o..end], &mut q[..room]);
+        times_diag_core(h, w, d, &mut q[..room]);
         return;
     }
-    multiply_diag(h, w, &values[o..end], unit, d, q);
+    multiply_diag(h, w, &held.values[o..end], held.unit, d, &mut q[..room]);
 }

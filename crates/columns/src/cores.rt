@@ -1,6 +1,7 @@
 // The searches over the row table, whose columns the starts give, that the checks of tables are made of. How one is made:
 //   NAME_ok      one place: its test in `Verdict` of tables
 //   first_NAME   the first place at which the test of its column fails, if there is one
+// Kept: what is asked of a single number, a place or a count, as a fact of the one call that has it.
 ghost use Rattle.std.specs.Prelude.{◌≡◌, ℕ, Bool, Option, ◌+◌, ◌<◌, ◌≤◌, length};
 ghost use Rattle.tables.specs.Search.{fault, sum};
 ghost use Rattle.tables.specs.Verdict.{at, column_of, row_ok, row_fits, order_ok, order_fits, block_area, areas};

@@ -1,6 +1,8 @@
 // The contents of a sheet, once its tables are unpacked. How a search is made:
 //   NAME_ok      one place of one table: its test in specs/Contents.antt
 //   first_NAME   the first place at which the test fails, if there is one
+// Kept: what is asked of a table or of its length, as a fact of each call: tables of many kinds are lent here, and a struct for one would be built at each call and
+// taken apart at the next.
 ghost use Rattle.std.specs.Prelude.{◌≡◌, ℕ, ◌+◌, ◌*◌, ◌<◌, ◌≤◌, length};
 ghost use Rattle.tables.specs.Search.{first, fault};
 ghost use Rattle.tables.specs.Verdict.{at};

@@ -4,7 +4,7 @@
 pub mod cores;
 
 // What the stored pivots say of a block.
-#[derive(Clone, Copy)]
+#[derive(Clone, Copy, Debug, PartialEq, Eq)]
 pub enum Definiteness {
     // All are positive.
     PositiveDefinite,

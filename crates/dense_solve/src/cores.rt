@@ -1,4 +1,6 @@
 // The solves where the lengths are known to be right, and the checks that they share with the blocks of a diagonal.
+// Kept: how long a slice is, as a fact beside the sizes. Each core is called in one place or two, with sizes and slices as the source has them; a struct that
+// holds a size and its slice would be built anew at each of them, for the one fact that it spares.
 ghost use Rattle.std.specs.Prelude.{◌≡◌, ◌*◌, length, OnOk};
 ghost use Rattle.refusal.specs.Shaped.{told};
 ghost use Rattle.kernel_diag.specs.Diag.{diag_solve};
@@ -38,7 +40,7 @@ fn divided_transpose_core(n: usize, l: &[f64], d: &[f64], x: &mut [f64])
 }
 
 // X := A⁻¹ X
-// Kept: a loop over columns; with the step as a closure its meaning would have to be a parameter too, and no line would go.
+// Kept: three kernels in the source's order; with the solve from the right it has in common that it calls three, which are others.
 pub fn ldlt_matsolve_core(n: usize, nrhs: usize, l: &[f64], d: &[f64], x: &mut [f64])
     requires { (length l.now ≡ n * n) × (length d.now ≡ n) × (length x.old ≡ n * nrhs) }
     ensures { x.new ≡ ldlt_matsolve n nrhs l.now d.now x.old }

@@ -1,4 +1,6 @@
 // The solve where the lengths are known to be right, and the checks of the lengths.
+// Kept: how long a slice is, as a fact beside the sizes. Each core is called in one place or two, with sizes and slices as the source has them; a struct that
+// holds a size and its slice would be built anew at each of them, for the one fact that it spares.
 ghost use Rattle.std.specs.Prelude.{◌≡◌, ◌*◌, length, OnOk};
 ghost use Rattle.refusal.specs.Shaped.{told};
 ghost use Rattle.dense_solve_right.specs.SolveRight.{ldlt_right_matsolve, right_verdict};
@@ -9,7 +11,7 @@ use kernel_right_transpose::cores::lower_transpose_rightsolve_core;
 use refusal::{ShapeError, area, size};
 
 // X := X A⁻¹
-// Kept: a loop over columns; with the step as a closure its meaning would have to be a parameter too, and no line would go.
+// Kept: three kernels in the source's order; with the solve from the left it has in common that it calls three, which are others.
 pub fn ldlt_right_matsolve_core(m: usize, n: usize, l: &[f64], d: &[f64], x: &mut [f64])
     requires { (length l.now ≡ n * n) × (length d.now ≡ n) × (length x.old ≡ m * n) }
     ensures { x.new ≡ ldlt_right_matsolve m n l.now d.now x.old }

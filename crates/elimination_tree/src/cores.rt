@@ -1,5 +1,6 @@
 // The elimination tree of a symmetric matrix from its upper pattern: Liu's algorithm with path compression (`EliminationTree::new`).
 // Tables of u32; none is NONE. One loop to a function.
+// Kept: what is asked of a single number, a place or a count, as a fact of the one call that has it.
 ghost use Rattle.std.specs.Prelude.{◌≡◌, ℕ, ◌+◌, ◌<◌, ◌≤◌, length, nat_lt};
 ghost use Rattle.std.proofs.Math.Seq.{slice};
 ghost use Rattle.graph.specs.Sets.{filter};

@@ -28,12 +28,11 @@ use Rattle.analysis.specs.declared.cores.Counts.{Counts}
 use Rattle.machine.specs.System.{System, blocks, links, order}
 use Rattle.machine.specs.Machine.{State, rows_at, going, run}
 use Rattle.machine.proofs.RunLaws.{links-symm, run_rows, run_demand3}
-use Rattle.layout.specs.Layout as layout
 use Rattle.layout.specs.Layout.{units_need, work_need}
 use Rattle.layout.proofs.RowLaws.{rows-slot}
 use Rattle.layout.proofs.PlanLaws.{plan_rows, plan_columns}
 use Rattle.block_product.proofs.SlotLaws.{slot-length}
-use Rattle.factor_setup.specs.Exact.{l_starts, l_rows, stored, numbers}
+use Rattle.factor_setup.specs.Exact.{l_starts, l_rows, stored}
 use Rattle.factor_core.specs.Factorize.{Factorized, told, Places, answered, cleared, Demand3, FactorsBy, Exact}
 use Rattle.factor_core.specs.Written.{Written}
 use Rattle.factor_core.specs.Cache.{cache_need, whole_kept, cleared_to, FactorsKept}

@@ -2,9 +2,9 @@
 -- leave is the machine's column j, or its refusal.
 --     nothing_yet    before the first column
 --     turns          one column more
---     laid-again, laid-alone, diagonal-again, placed_by    what the steps need, with lengths as they are later
+--     laid-again, placed_by    what the steps need, with lengths as they are later
 -- Assumes nothing.
-use Rattle.std.specs.Prelude.{◌≡◌, ℕ, ◌+◌, ◌*◌, ◌<◌, ◌≤◌, true, false, List, [], ◌∷◌, ◌++◌, length}
+use Rattle.std.specs.Prelude.{◌≡◌, ℕ, ◌*◌, ◌<◌, true, false, List, [], ◌∷◌, ◌++◌, length}
 use mathlib.Core.List.{append-nil}
 use mathlib.Core.Option.{none}
 use mathlib.Core.Path.{refl, sym, ap, ap₂, subst, ◌∙◌}
@@ -31,13 +31,13 @@ use Rattle.machine.proofs.StepLaws.{products-finished}
 use Rattle.machine.proofs.RunLaws.{Right, columns_keep, sequence-is, touched-is}
 use Rattle.machine.proofs.StopLaws.{run-next}
 use Rattle.block_product.specs.Working.{slot, Shows}
-use Rattle.layout.specs.Layout.{Tables, side, start_of, stop_of, on_at, RowsLaid, DiagonalLaid, Placed}
+use Rattle.layout.specs.Layout.{Tables, side, start_of, stop_of, on_at, RowsLaid, Placed}
 use Rattle.load_column.specs.Load.{Fed, LoadedColumn}
 use Rattle.finish_column.specs.Finish.{HoldsAll, Before, Ended, Finishes}
 use Rattle.keep_column.specs.Keep.{Keeps, KeptAll}
 use Rattle.work_column.specs.Work.{Ahead, Works}
 use Rattle.factor_column.proofs.KeptLaws.{kept_more}
-use Rattle.factor_column.specs.Turn.{turned_of, Counted, Given, Served, UpTo, After, Turns}
+use Rattle.factor_column.specs.Turn.{turned_of, Given, Served, UpTo, After, Turns}
 
 -- ---- what the steps need
 
@@ -54,36 +54,12 @@ module _ (t : Tables) where
   pub laid-again : {n n' v v' c c' : ℕ} → n ≡ n' → v ≡ v' → c ≡ c' → RowsLaid t n v c → RowsLaid t n' v' c'
   laid-again en ev ec laid = rw (← en, ← ev, ← ec) laid
 
-  -- loading asks nothing of L's values
-  pub laid-alone : {n v c : ℕ} → RowsLaid t n v c → RowsLaid t n (at t.l_offsets (length t.l_rows)) c
-  laid-alone laid =
-      record {
-        count = laid.count;
-        size = laid.size;
-        column = laid.column;
-        after = laid.after;
-        row = laid.row;
-        ascends = laid.ascends;
-        body = laid.body;
-        bodies = omega arith;
-        packed = laid.packed;
-      }
-
   -- the places of a loaded column, whatever the system
   pub placed_by : (dims starts rows : List ℕ) (values : List Float) (moved : List ℕ) (j : ℕ) (places : List ℕ) (c : List Float)
       → ((a : System) → Fed a dims starts rows values moved → LoadedColumn t a j places c) → Placed t places j
   placed_by dims starts rows values moved j places c loads =
       (loads (record { dims = dims; starts = starts; rows = rows; values = values; perm = moved; late = []; tol = nan })
       (record { by_dims = refl; by_starts = refl; by_rows = refl; by_values = refl; by_order = moved_none moved })).placed
-
-pub diagonal-again : (sizes unit_starts d_starts : List ℕ) {n n' diag diag' d d' : ℕ} → n ≡ n' → diag ≡ diag' → d ≡ d'
-    → DiagonalLaid sizes unit_starts d_starts n diag d → DiagonalLaid sizes unit_starts d_starts n' diag' d'
-diagonal-again sizes unit_starts d_starts en eu ed laid = rw (← en, ← eu, ← ed) laid
-
--- the count has its bound, however the column ends
-pub counts-so : (j count : ℕ) (r : Result LdltResult BlockError) → count ≤ 16777216 * (j + 1) → Counted j (turned_of count r)
-counts-so j count (Ok r) h = h
-counts-so j count (Err e) h = tt
 
 -- ---- one column
 

@@ -14,6 +14,7 @@ use Rattle.layout.specs.Layout.{Tables, rows_at}
 use Rattle.load_column.specs.Load.{Fed}
 use Rattle.finish_column.specs.Finish.{HoldsAll}
 use Rattle.keep_column.specs.Keep.{KeptAll}
+use Rattle.lists.specs.declared.Matrix.{Matrix}
 
 -- the end of a column, with the count so far
 abbrev pub turned_of : ℕ → Result LdltResult BlockError → Result ℕ BlockError
@@ -36,6 +37,10 @@ pub record Given : Type 0 where
 
 abbrev pub given : (dims starts rows : List ℕ) (values : List Float) (order : List ℕ) (tol : Float) → Given
 given dims starts rows values order tol = record { dims = dims; starts = starts; rows = rows; values = values; order = order; tol = tol }
+
+-- the same of the struct
+abbrev pub given_of : Matrix → Float → Given
+given_of a tol = given a.dims.now a.starts.now a.rows.now a.values.now a.order.now tol
 
 -- The system a is fed with g; the upper pattern lists its links, and L's row table its columns.
 pub record Served (t : Tables) (into upper : List ℕ) (g : Given) (a : System) : Type 0 where

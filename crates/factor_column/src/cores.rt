@@ -1,116 +1,56 @@
 // One column of the factorization, where the plan's tables are known to be good.
+// Kept: `Source` and `Grown`, which other contracts ask too: each is one named record, and each goes to another call here.
 ghost use Rattle.std.specs.Prelude.{◌≡◌, ◌+◌, ◌*◌, ◌<◌, ◌≤◌, length};
-ghost use Rattle.symbolic.specs.Columns.{Below};
-ghost use Rattle.layout.specs.Layout.{tables, RowsLaid, DiagonalLaid};
+ghost use Rattle.layout.specs.Layout.{laid, RowsLaid, DiagonalLaid};
 ghost use Rattle.load_column.specs.Load.{Source};
-ghost use Rattle.work_column.specs.Work.{Next, Grown};
-ghost use Rattle.factor_column.specs.Turn.{given, Turns, Counted, turned_of};
+ghost use Rattle.finish_column.specs.Finish.{SameNumbers};
+ghost use Rattle.work_column.specs.Work.{Ready, Grown, SameScratch};
+ghost use Rattle.factor_column.specs.Turn.{given_of, Turns, Counted, turned_of};
 
 use block_diag_ldlt::cores::BlockError;
 use dense_pivots::LdltResult;
 use finish_column::cores::finish_column;
 use keep_column::cores::keep_column;
+use lists::{Matrix, Numbers, Tables};
 use load_column::cores::load_column;
-use work_column::cores::work_column;
+use work_column::cores::{Scratch, work_column};
 
-// Column j of the factor of A, whose tables and values are the first five slices; `order` is the order of elimination, `bodies` where
-// each body of A begins. The factor's flat lists are `l_values`, `diag` and d. `cache` keeps Q of the finished columns, as far as it is long
-// enough; all else of what is lent mutably is scratch. The answer is the number of products of all columns so far.
+// Column j of the factor of A. The cache keeps Q of the finished columns, as far as it is long enough. The answer is the number of products of
+// all columns so far.
 pub fn factor_column(
-    dims: &[u32],
-    starts: &[u32],
-    rows: &[u32],
-    values: &[f64],
-    bodies: &[u32],
-    order: &[u32],
-    sizes: &[u32],
-    l_starts: &[u32],
-    l_rows: &[u32],
-    l_offsets: &[u32],
-    unit_starts: &[u32],
-    d_starts: &[u32],
-    into: &[u32],
-    upper: &[u32],
-    tree: &[u32],
+    a: &Matrix,
+    t: &Tables,
     j: usize,
     tol: f64,
-    stamps: &mut [u32],
-    out: &mut [u32],
-    next: &mut [u32],
-    places: &mut [u32],
-    qj: &mut [f64],
-    qi: &mut [f64],
-    c: &mut [f64],
-    l_values: &mut [f64],
-    diag: &mut [f64],
-    d: &mut [f64],
-    cache: &mut [f64],
+    w: &mut Scratch,
+    f: &mut Numbers,
     count: u64,
 ) -> Result<u64, BlockError>
-    requires source { Source dims.now starts.now rows.now values.now bodies.now order.now sizes.now }
-    requires rows_laid { RowsLaid (tables sizes.now l_starts.now l_rows.now l_offsets.now) (length dims.now) (length l_values.old) (length c.old) }
-    requires diagonal_laid { DiagonalLaid sizes.now unit_starts.now d_starts.now (length dims.now) (length diag.old) (length d.old) }
-    requires grown { Grown (tables sizes.now l_starts.now l_rows.now l_offsets.now) into.now upper.now tree.now × (length tree.now ≡ length dims.now) }
-    requires next { Next (tables sizes.now l_starts.now l_rows.now l_offsets.now) (length dims.now) j next.old × (j < length dims.now) × (length places.old ≡ length dims.now) }
-    requires stamps_len { (length stamps.old ≡ length dims.now) × (length out.old ≡ length dims.now) × Below j stamps.old }
-    requires in_bounds { (256 ≤ length qj.old) × (256 ≤ length qi.old) × (length c.old < 4294967296) × (count ≤ 16777216 * j) }
-    ensures next_2 { Next (tables sizes.now l_starts.now l_rows.now l_offsets.now) (length dims.now) (j + 1) next.new × Below (j + 1) stamps.new }
+    requires source { Source a.now.dims.now a.now.starts.now a.now.rows.now a.now.values.now a.now.bodies.now a.now.order.now t.now.sizes.now }
+    requires rows_laid { RowsLaid (laid t.now) (length a.now.dims.now) (length f.old.l_values.now) (length w.old.room.c.now) }
+    requires diagonal_laid { DiagonalLaid t.now.sizes.now t.now.unit_starts.now t.now.d_starts.now (length a.now.dims.now) (length f.old.diag.now) (length f.old.d.now) }
+    requires grown { Grown (laid t.now) t.now.into.now t.now.upper.now t.now.tree.now × (length t.now.tree.now ≡ length a.now.dims.now) }
+    requires ready { Ready (laid t.now) (length a.now.dims.now) j w.old }
+    requires in_bounds { (j < length a.now.dims.now) × (length w.old.room.c.now < 4294967296) × (count ≤ 16777216 * j) }
+    ensures ready_next { Ready (laid t.now) (length a.now.dims.now) (j + 1) w.new }
     ensures counted { Counted j result }
-    ensures turns { Turns (tables sizes.now l_starts.now l_rows.now l_offsets.now) unit_starts.now d_starts.now into.now upper.now (given dims.now starts.now rows.now values.now order.now tol) j l_values.old diag.old d.old cache.old count result l_values.new diag.new d.new cache.new }
+    ensures turns { Turns (laid t.now) t.now.unit_starts.now t.now.d_starts.now t.now.into.now t.now.upper.now (given_of a.now tol) j f.old.l_values.now f.old.diag.now f.old.d.now f.old.cache.now count result f.new.l_values.now f.new.diag.now f.new.d.now f.new.cache.now }
+    ensures scratch { SameScratch w.old w.new }
+    ensures numbers { SameNumbers f.old f.new }
 {
-    load_column(
-        dims, starts, rows, values, bodies, order, sizes, l_starts, l_rows, l_offsets, j, places, c,
-    );
-    let n = work_column(
-        sizes,
-        &places[..],
-        l_starts,
-        l_rows,
-        l_offsets,
-        unit_starts,
-        d_starts,
-        into,
-        upper,
-        tree,
-        j,
-        stamps,
-        out,
-        next,
-        &l_values[..],
-        &diag[..],
-        &d[..],
-        &cache[..],
-        qj,
-        qi,
-        c,
-        count,
-    );
-    let r = finish_column(
-        sizes,
-        &places[..],
-        l_starts,
-        l_rows,
-        l_offsets,
-        unit_starts,
-        d_starts,
-        j,
-        tol,
-        &c[..],
-        l_values,
-        diag,
-        d,
-    );
-    keep_column(
-        sizes,
-        l_starts,
-        l_rows,
-        l_offsets,
-        unit_starts,
-        j,
-        &l_values[..],
-        &diag[..],
-        cache,
-    );
+    let room = &mut w.room;
+    let places = &mut *room.places;
+    let c = &mut *room.c;
+    load_column(a, t, j, places, c);
+    let n = work_column(t, f, j, w, count);
+    let room = &mut w.room;
+    let places = &mut *room.places;
+    let c = &mut *room.c;
+    let r = finish_column(t, &places[..], j, tol, &c[..], f);
+    let l_values = &mut *f.l_values;
+    let diag = &mut *f.diag;
+    let cache = &mut *f.cache;
+    keep_column(t, j, &l_values[..], &diag[..], cache);
     turned_by(n, r)
 }
 

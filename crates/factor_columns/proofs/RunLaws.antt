@@ -1,10 +1,9 @@
 -- Where the loop over the columns ends is where the machine's run ends.
 --     stops_at    a column that is refused ends the run with its refusal
 --     refuses     and so do the columns
---     whole       after the last column the run is whole
 -- Assumes nothing.
-use Rattle.std.specs.Prelude.{◌≡◌, ℕ, suc, ◌+◌, ◌-◌, ◌<◌, ◌≤◌, List}
-use mathlib.Core.Path.{ap, subst, sym, ◌∙◌}
+use Rattle.std.specs.Prelude.{◌≡◌, ℕ, suc, ◌+◌, ◌-◌, ◌<◌, List}
+use mathlib.Core.Path.{ap, sym, ◌∙◌}
 use native.Mathlib.Omega.{arith}
 use lib.Ieee.{Float}
 use Rattle.refusal.specs.Refusal.{Told}
@@ -15,7 +14,7 @@ use Rattle.machine.specs.System.{System, blocks}
 use Rattle.machine.specs.Machine.{stopped, run_to, run}
 use Rattle.machine.proofs.StopLaws.{stays}
 use Rattle.layout.specs.Layout.{Tables}
-use Rattle.factor_column.specs.Turn.{UpTo, After}
+use Rattle.factor_column.specs.Turn.{After}
 use Rattle.factor_columns.specs.Columns.{refused_at, Ends}
 
 pub stops_at : (a : System) (t : Told) (j : ℕ) → j < blocks a → run_to a (suc j) ≡ stopped t → run a ≡ stopped t
@@ -27,9 +26,3 @@ pub refuses : (t : Tables) (unit_starts d_starts : List ℕ) (a : System) (j : �
     → After t unit_starts d_starts a j (Err e) values diag d cache → Ends t unit_starts d_starts a (Err (refused_at j e)) values diag d cache
 refuses t unit_starts d_starts a j (NotFinite place pivot) values diag d cache h e = stops_at a _ j h e
 refuses t unit_starts d_starts a j (Poor condition) values diag d cache h e = stops_at a _ j h e
-
-pub whole : (t : Tables) (unit_starts d_starts : List ℕ) (a : System) (j : ℕ) (values diag d cache : List Float) (count : ℕ) → j ≤ blocks a → blocks a ≤ j
-    → UpTo t unit_starts d_starts a j values diag d cache count → UpTo t unit_starts d_starts a (blocks a) values diag d cache count
-whole t unit_starts d_starts a j values diag d cache count le ge up =
-    let z : j ≡ blocks a = omega arith in
-    subst (λ (m : ℕ). UpTo t unit_starts d_starts a m values diag d cache count) z up

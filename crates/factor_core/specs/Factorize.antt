@@ -18,11 +18,14 @@ use Rattle.machine.specs.System.{System, blocks, links, order}
 use Rattle.machine.specs.Machine.{State, rows_at, Run, going, stopped, run}
 use Rattle.layout.specs.Layout.{units_need, work_need}
 use Rattle.factor_setup.specs.Exact.{stored, numbers, l_starts, l_rows, l_offsets, values_after, units_after, pivots_after}
+use Rattle.factor_setup.specs.declared.Outputs.{Outputs}
+use Rattle.factor_setup.specs.declared.Work.{Work}
+pub use Rattle.factor_setup.specs.Lent.{SameOutputs}
+use Rattle.scratch.specs.declared.Scratch as plan
 use Rattle.checks.specs.declared.SystemError.{SystemError}
 use Rattle.checks.specs.declared.SystemError.TheVariants as table
 use Rattle.factor_columns.specs.declared.cores.ColumnError.{ColumnError}
 use Rattle.factor_columns.specs.declared.cores.ColumnError.TheVariants as column
-use Rattle.factor_core.specs.declared.Outputs.{Outputs}
 use Rattle.factor_core.specs.declared.Scratch.{Scratch}
 use Rattle.factor_core.specs.declared.FactorizeError.{FactorizeError}
 use Rattle.factor_core.specs.declared.FactorizeError.TheVariants as variant
@@ -131,17 +134,13 @@ lent_of o w =
     lent o.order.now o.parents.now o.l_starts.now o.l_rows.now o.l_offsets.now o.l_values.now o.diag.now o.d.now w.column.now
     w.inverse.now w.sizes.now w.count.now w.heads.now w.into.now w.stamps.now w.table.now w.upper.now w.bodies.now w.unit_starts.now w.d_starts.now w.places.now
 
--- each output is still the one that was lent, as long as it was, and so is each buffer of scratch
-pub record SameOutputs (o p : Outputs) : Type 0 where
-  pub order : (p.order.ghost_name ≡ o.order.ghost_name) × (length p.order.now ≡ length o.order.now)
-  pub parents : (p.parents.ghost_name ≡ o.parents.ghost_name) × (length p.parents.now ≡ length o.parents.now)
-  pub l_starts : (p.l_starts.ghost_name ≡ o.l_starts.ghost_name) × (length p.l_starts.now ≡ length o.l_starts.now)
-  pub l_rows : (p.l_rows.ghost_name ≡ o.l_rows.ghost_name) × (length p.l_rows.now ≡ length o.l_rows.now)
-  pub l_offsets : (p.l_offsets.ghost_name ≡ o.l_offsets.ghost_name) × (length p.l_offsets.now ≡ length o.l_offsets.now)
-  pub l_values : (p.l_values.ghost_name ≡ o.l_values.ghost_name) × (length p.l_values.now ≡ length o.l_values.now)
-  pub diag : (p.diag.ghost_name ≡ o.diag.ghost_name) × (length p.diag.now ≡ length o.diag.now)
-  pub d : (p.d.ghost_name ≡ o.d.ghost_name) × (length p.d.now ≡ length o.d.now)
+-- the same where the scratch of the plan and what the numbers are worked out in are lent apart
+abbrev pub lent_in : Outputs → plan.Scratch → Work → Places
+lent_in o p w =
+    lent o.order.now o.parents.now o.l_starts.now o.l_rows.now o.l_offsets.now o.l_values.now o.diag.now o.d.now w.column.now
+    p.inverse.now p.sizes.now p.count.now p.heads.now p.into.now p.stamps.now p.table.now p.upper.now w.bodies.now w.unit_starts.now w.d_starts.now w.places.now
 
+-- each buffer of scratch is still the one that was lent, as long as it was
 pub record SameScratch (w x : Scratch) : Type 0 where
   pub column : (x.column.ghost_name ≡ w.column.ghost_name) × (length x.column.now ≡ length w.column.now)
   pub inverse : (x.inverse.ghost_name ≡ w.inverse.ghost_name) × (length x.inverse.now ≡ length w.inverse.now)

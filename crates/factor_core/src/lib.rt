@@ -9,21 +9,9 @@ ghost use Rattle.factor_core.specs.Factorize.{told_error, of_tables, of_short, o
 pub use analysis::cores::Counts;
 use checks::SystemError;
 use factor_columns::cores::ColumnError;
+pub use factor_setup::Outputs;
 use needs::ShortBuffer;
 use refusal::Refusal;
-
-// The outputs of a factorization.
-#[derive(Drop)]
-pub struct Outputs<'a> {
-    pub order: &'a mut [u32],
-    pub parents: &'a mut [u32],
-    pub l_starts: &'a mut [u32],
-    pub l_rows: &'a mut [u32],
-    pub l_offsets: &'a mut [u32],
-    pub l_values: &'a mut [f64],
-    pub diag: &'a mut [f64],
-    pub d: &'a mut [f64],
-}
 
 // What a factorization is lent to work in.
 #[derive(Drop)]

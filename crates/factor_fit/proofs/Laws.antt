@@ -1,12 +1,11 @@
 -- The analysis, and the outputs where the needs that only the plan shows are met or not.
---     stored_is, numbers-are, few_stored, analyzed    the analysis
+--     stored_is, numbers-are, few_stored              the analysis
 --     kept-is, plan-told                              the needs that only the plan shows
 --     fit-short, fit_made                             the outputs
 -- Assumes nothing.
-use Rattle.std.specs.Prelude.{◌≡◌, ℕ, ◌+◌, ◌<◌, Bool, true, cond, List, ◌++◌, length, take, drop, Result}
+use Rattle.std.specs.Prelude.{◌≡◌, ℕ, ◌<◌, Bool, true, cond, List, length, Result}
 use mathlib.Core.Path.{sym, ap, ◌∙◌}
 use native.Mathlib.Omega.{arith}
-use lib.Ieee.{Float}
 use Rattle.refusal.specs.Refusal.{Told, done, refuses, first_of, verdict, after}
 use Rattle.refusal.proofs.Laws.{first-refuses}
 use Rattle.needs.specs.Needs.{need_checks}
@@ -18,9 +17,12 @@ use Rattle.machine.specs.Machine.{run}
 use Rattle.machine.proofs.RunLaws.{links-symm}
 use Rattle.layout.proofs.PlanLaws.{plan_few, plan-stored}
 use Rattle.factor_columns.specs.declared.cores.ColumnError.{ColumnError}
-use Rattle.factor_setup.specs.Exact.{stored, numbers, Analyzed}
+use Rattle.scratch.specs.declared.Scratch.{Scratch}
+use Rattle.factor_setup.specs.Exact.{stored, numbers}
+use Rattle.factor_setup.specs.declared.Outputs.{Outputs}
+use Rattle.factor_setup.specs.declared.Work.{Work}
 use Rattle.factor_made.specs.Made.{Makes}
-use Rattle.factor_core.specs.Factorize.{Factorized, told, Places, answered}
+use Rattle.factor_core.specs.Factorize.{Factorized, told, Places, lent_in, answered}
 use Rattle.factor_core.specs.Written.{factorized_by, plan_needs, Written}
 use Rattle.factor_core.specs.Cache.{lesser, cache_need, whole_kept}
 use Rattle.factor_core.proofs.FitLaws.{told-needs}
@@ -42,9 +44,6 @@ module _ (a : System) (sound : SystemSound a.dims a.starts a.rows a.values a.per
       let s = plan-stored (links a) (blocks a) (links-symm a) in
       let f = plan_few (links a) (blocks a) (links-symm a) sound.plan.blocks in
       omega arith
-
-  pub analyzed : Analyzed a into (take r.entries upper) (take (blocks a) heads) count
-  analyzed = record { listed = g.listed; parents = g.analyzed.parents; counted = g.analyzed.counted }
 
 -- ---- the needs that only the plan shows
 
@@ -86,23 +85,21 @@ module _ (w : Told) (a : System) (b b' : Places) where
       kept : {A : Type 0} (old new : A) → old ≡ after w old new
       kept old new = sym (ap (λ (z : Bool). cond z old new) also)
 
-  -- all needs are met: the factor's
-  pub fit_made : (r : Factorized) (x : Result ℕ ColumnError) (moved parents starts rows offsets : List ℕ) (values diag d : List Float) → Makes a x moved parents starts rows offsets values diag d
-      → r ≡ factorized_by (stored a) (numbers a) x → done ≡ w
-      → b'.order ≡ moved → b'.parents ≡ parents → b'.l_starts ≡ starts → b'.l_rows ≡ rows ++ drop (stored a) b.l_rows → b'.l_offsets ≡ offsets ++ drop (stored a + 1) b.l_offsets
-      → b'.l_values ≡ values ++ drop (numbers a) b.l_values → b'.diag ≡ diag → b'.d ≡ d → Written w a b r b'
-  fit_made r x moved parents starts rows offsets values diag d m is passes eo ep es er ef ev eu ed =
-      record {
-        outcome = ap told is ∙ answer-is a x m.outcome ∙ ap (λ (t : Told). first_of t (answered a (run a))) passes;
-        order = eo ∙ m.by_order ∙ now b.order _;
-        parents = ep ∙ m.by_parents ∙ now b.parents _;
-        l_starts = es ∙ m.by_starts ∙ now b.l_starts _;
-        l_rows = er ∙ ap (λ (l : List ℕ). l ++ drop (stored a) b.l_rows) m.by_rows ∙ now b.l_rows _;
-        l_offsets = ef ∙ ap (λ (l : List ℕ). l ++ drop (stored a + 1) b.l_offsets) m.by_offsets ∙ now b.l_offsets _;
-        l_values = ev ∙ ap (λ (l : List Float). l ++ drop (numbers a) b.l_values) m.by_values ∙ now b.l_values _;
-        diag = eu ∙ m.by_diag ∙ now b.diag _;
-        d = ed ∙ m.by_d ∙ now b.d _;
-      }
-    where
-      now : {A : Type 0} (old new : A) → new ≡ after w old new
-      now old new = ap (λ (t : Told). after t old new) passes
+-- all needs are met: the factor's
+pub fit_made : (w : Told) (a : System) (o o' : Outputs) (p p' : Scratch) (x x' : Work) (r : Factorized) (y : Result ℕ ColumnError) → Makes a y o o'
+    → r ≡ factorized_by (stored a) (numbers a) y → done ≡ w → Written w a (lent_in o p x) r (lent_in o' p' x')
+fit_made w a o o' p p' x x' r y m is passes =
+    record {
+      outcome = ap told is ∙ answer-is a y m.outcome ∙ ap (λ (t : Told). first_of t (answered a (run a))) passes;
+      order = m.by_order ∙ now o.order.now _;
+      parents = m.by_parents ∙ now o.parents.now _;
+      l_starts = m.by_starts ∙ now o.l_starts.now _;
+      l_rows = m.by_rows ∙ now o.l_rows.now _;
+      l_offsets = m.by_offsets ∙ now o.l_offsets.now _;
+      l_values = m.by_values ∙ now o.l_values.now _;
+      diag = m.by_diag ∙ now o.diag.now _;
+      d = m.by_d ∙ now o.d.now _;
+    }
+  where
+    now : {A : Type 0} (old new : A) → new ≡ after w old new
+    now old new = ap (λ (t : Told). after t old new) passes

@@ -1,4 +1,5 @@
 // The factorization in scratch that may be longer than its needs: it is worked out in the first places of each.
+// Kept: that the system has passed, as a fact: from `factor_room` down these crates are one call cut in pieces, and a struct around the system would be opened in each.
 ghost use Rattle.refusal.specs.Refusal.{done};
 ghost use Rattle.tables.specs.Sound.{SystemSound};
 ghost use Rattle.factor_setup.specs.Exact.{handed};
@@ -7,9 +8,10 @@ ghost use Rattle.factor_core.specs.Cache.{FactorsKept};
 ghost use Rattle.factor_lent.specs.Room.{Enough, Exactly, OutputRoom, PlanScratch, NumberScratch};
 
 use factor_cleared::cores::factored_core;
-use factor_core::{Counts, FactorizeError, Outputs, Scratch};
-use factor_setup::System;
+use factor_core::{Counts, FactorizeError, Outputs};
+use factor_setup::{System, Work};
 use factor_tables::cores::work_numbers;
+use scratch::Scratch;
 
 // The outputs have exactly their needs. The scratch is cut here.
 // Kept: the scratch buffer by buffer: what is cut from a struct's field can't be lent in another struct, only what is cut from a parameter.
@@ -55,8 +57,7 @@ pub fn lend_scratch(
     let (unit_starts, _) = unit_starts.split_at_mut(n + 1);
     let (d_starts, _) = d_starts.split_at_mut(n + 1);
     let (places, _) = places.split_at_mut(n);
-    let mut w = Scratch {
-        column,
+    let mut p = Scratch {
         inverse,
         sizes,
         count,
@@ -65,10 +66,13 @@ pub fn lend_scratch(
         stamps,
         table,
         upper,
+    };
+    let mut w = Work {
+        column,
         bodies,
         unit_starts,
         d_starts,
         places,
     };
-    factored_core(s, o, &mut w, most, cache)
+    factored_core(s, o, &mut p, &mut w, most, cache)
 }

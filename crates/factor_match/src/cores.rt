@@ -1,14 +1,12 @@
 // A factor's tables against A's under the order of elimination, where both are known to be of good shape. Column by column, from the
 // tables handed in: no scratch is lent, and none of the calls holds more than 48 KiB of local arrays.
-ghost use Rattle.std.specs.Prelude.{◌≡◌, ◌≤◌, length};
+// Kept: what is known of the lists that are compared, as facts: they are the system's and the factor's, which are handed in apart.
+ghost use Rattle.std.specs.Prelude.{◌≡◌, length};
 ghost use Rattle.graph.specs.Links.{rows_in};
-ghost use Rattle.graph.specs.Order.{Permutes};
-ghost use Rattle.tables.specs.Verdict.{from_diagonal, past_diagonal};
-ghost use Rattle.tables.specs.Sound.{Columns};
-ghost use Rattle.match_rows.specs.Rows.{given_in, LowestOf};
+ghost use Rattle.match_rows.specs.Rows.{Compared, given_in, LowestOf};
 ghost use Rattle.factor_match.specs.Match.{before, match_of};
 
-use match_rows::cores::{first_off, first_stray, first_unlinked, first_unpassed};
+use match_rows::cores::{Links, first_off, first_stray, first_unlinked, first_unpassed};
 
 // The first column of a factor that is not the system's.
 #[derive(Clone, Copy, Debug, PartialEq, Eq)]
@@ -22,19 +20,12 @@ pub enum ColumnError {
 }
 
 // The lowest column that lacks a row it is given, by a link or by a child, if one does.
-pub fn first_lacking(
-    starts: &[u32],
-    rows: &[u32],
-    order: &[u32],
-    l_starts: &[u32],
-    l_rows: &[u32],
-) -> Option<usize>
-    requires order_len_bound { (length order.now ≤ 4096) × Columns from_diagonal (length order.now) starts.now rows.now × Permutes (length order.now) order.now }
-    requires columns { Columns past_diagonal (length order.now) l_starts.now l_rows.now }
-    ensures { LowestOf (given_in starts.now rows.now order.now l_starts.now l_rows.now) (rows_in l_starts.now l_rows.now) (length order.now) result }
+pub fn first_lacking(links: &Links, l_starts: &[u32], l_rows: &[u32]) -> Option<usize>
+    requires compared { Compared links.now.starts.now links.now.rows.now links.now.order.now l_starts.now l_rows.now }
+    ensures { LowestOf (given_in links.now.starts.now links.now.rows.now links.now.order.now l_starts.now l_rows.now) (rows_in l_starts.now l_rows.now) (length links.now.order.now) result }
 {
-    let unlinked = first_unlinked(starts, rows, order, l_starts, l_rows);
-    let unpassed = first_unpassed(l_starts, l_rows, order.len());
+    let unlinked = first_unlinked(links, l_starts, l_rows);
+    let unpassed = first_unpassed(l_starts, l_rows, links.order.len());
     match unpassed {
         Some(column) if is_before(column, unlinked) => unpassed,
         _ => unlinked,
@@ -52,23 +43,20 @@ pub fn is_before(column: usize, other: Option<usize>) -> bool
 }
 
 // Every column has the rows of the path rule and Liu's parent, or which column of the factor is the first that is wrong, and how.
-//     starts, rows                A's tables, by old number
-//     order                       the permutation after the late move
+//     links                       A's tables, by old number, and the permutation after the late move
 //     parents, l_starts, l_rows   the factor's tables, by new number
 pub fn first_wrong(
-    starts: &[u32],
-    rows: &[u32],
-    order: &[u32],
+    links: &Links,
     parents: &[u32],
     l_starts: &[u32],
     l_rows: &[u32],
 ) -> Result<(), ColumnError>
-    requires order_len_bound { (length order.now ≤ 4096) × Columns from_diagonal (length order.now) starts.now rows.now × Permutes (length order.now) order.now }
-    requires columns { Columns past_diagonal (length order.now) l_starts.now l_rows.now × (length parents.now ≡ length order.now) }
-    ensures { result ≡ match_of starts.now rows.now order.now parents.now l_starts.now l_rows.now }
+    requires compared { Compared links.now.starts.now links.now.rows.now links.now.order.now l_starts.now l_rows.now }
+    requires parents_len { length parents.now ≡ length links.now.order.now }
+    ensures { result ≡ match_of links.now.starts.now links.now.rows.now links.now.order.now parents.now l_starts.now l_rows.now }
 {
-    let lack = first_lacking(starts, rows, order, l_starts, l_rows);
-    let stray = first_stray(starts, rows, order, l_starts, l_rows);
+    let lack = first_lacking(links, l_starts, l_rows);
+    let stray = first_stray(links, l_starts, l_rows);
     if let Some(column) = first_off(parents, l_starts, l_rows) {
         if is_before(column, lack) && is_before(column, stray) {
             return Err(ColumnError::Parent { column });

@@ -1,4 +1,5 @@
 // The numbers of a factor, where each list has exactly its need and the night's tables have passed.
+// Kept: that the system has passed, as a fact: from `factor_room` down these crates are one call cut in pieces, and a struct around the system would be opened in each.
 ghost use Rattle.std.specs.Prelude.{◌≡◌, length};
 ghost use Rattle.scalar.specs.Block.{zeros};
 ghost use Rattle.elimination_tree.specs.Tree.{parents_of};
@@ -10,11 +11,15 @@ ghost use Rattle.factor_columns.specs.Columns.{told};
 ghost use Rattle.factor_setup.specs.Exact.{handed, values_after, units_after, pivots_after, Tabled, NumberRoom};
 ghost use Rattle.factor_numbers.specs.Spoilt.{spoilt_by};
 
+use column_products::cores::Working;
 use factor_columns::cores::{ColumnError, factor_columns};
 use factor_setup::System;
+use lists::{Matrix, Numbers, Tables};
 use scalar::{blank, clear};
+use work_column::cores::Scratch;
 
 // The numbers of the factor by these tables; after a refusal they are NaN in full. The cache ends as zeros.
+// Kept: what is lent list by list, since most are cut from longer lists: of a cut that goes into a struct nothing is known afterwards.
 pub fn write_numbers(
     s: &System,
     tree: &[u32],
@@ -48,39 +53,48 @@ pub fn write_numbers(
     ensures d_after { d.new ≡ pivots_after (handed s.now) (machine.run (handed s.now)) }
     ensures cache_after { cache.new ≡ zeros (length cache.old) }
 {
-    let r = factor_columns(
-        s.dims,
-        s.starts,
-        s.rows,
-        s.values,
-        bodies,
-        order,
-        sizes,
-        l_starts,
-        l_rows,
-        l_offsets,
-        unit_starts,
-        d_starts,
-        into,
-        upper,
-        tree,
-        s.tol,
-        stamps,
-        inverse,
-        next,
+    let a = Matrix {
+        dims: &s.dims[..],
+        starts: &s.starts[..],
+        rows: &s.rows[..],
+        values: &s.values[..],
+        bodies: &bodies[..],
+        order: &order[..],
+    };
+    let t = Tables {
+        sizes: &sizes[..],
+        l_starts: &l_starts[..],
+        l_rows: &l_rows[..],
+        l_offsets: &l_offsets[..],
+        unit_starts: &unit_starts[..],
+        d_starts: &d_starts[..],
+        into: &into[..],
+        upper: &upper[..],
+        tree: &tree[..],
+    };
+    let room = Working {
         places,
-        &mut [0.0; 256],
-        &mut [0.0; 256],
-        column,
+        qj: &mut [0.0; 256],
+        qi: &mut [0.0; 256],
+        c: column,
+    };
+    let mut w = Scratch {
+        stamps,
+        out: inverse,
+        next,
+        room,
+    };
+    let mut f = Numbers {
         l_values,
         diag,
         d,
         cache,
-    );
-    spoil(&r, l_values);
-    spoil(&r, diag);
-    spoil(&r, d);
-    clear(cache);
+    };
+    let r = factor_columns(&a, &t, s.tol, &mut w, &mut f);
+    spoil(&r, f.l_values);
+    spoil(&r, f.diag);
+    spoil(&r, f.d);
+    clear(f.cache);
     r
 }
 

@@ -1,5 +1,7 @@
 // What of a factor depends on the order of elimination, where the tables are known to be good. Nothing lent is written: the order is
 // made anew in a local table of 16 KiB.
+// Kept: that dimensions are sizes, that they are few, and that an order permutes them stand by themselves: `size_under`, `order_with` and the sums of
+// `columns` ask for only one of the three, so a record of all would ask them for more.
 ghost use Rattle.std.specs.Prelude.{◌≡◌, ◌<◌, ◌≤◌, length};
 ghost use Rattle.graph.specs.Order.{Permutes, moved};
 ghost use Rattle.tables.specs.Verdict.{at, areas, past_diagonal};
@@ -30,23 +32,6 @@ pub fn area_with(
     total_area(table, l_starts, l_rows)
 }
 
-// The same in a table that may be longer.
-pub fn area_within(
-    dims: &[u32],
-    perm: &[u32],
-    late: &[u32],
-    l_starts: &[u32],
-    l_rows: &[u32],
-    table: &mut [u32],
-) -> usize
-    requires dims_len_bound { (length dims.now ≤ 4096) × Sizes dims.now × Permutes (length dims.now) perm.now × (length late.now ≡ length dims.now) }
-    requires columns { Columns past_diagonal (length dims.now) l_starts.now l_rows.now × (length dims.now ≤ length table.old) }
-    ensures { result ≡ areas (sizes_of dims.now (moved perm.now late.now)) l_starts.now l_rows.now }
-{
-    let n = dims.len();
-    area_with(dims, perm, late, l_starts, l_rows, &mut table[..n])
-}
-
 // The area of a factor's blocks under the order of elimination.
 pub fn area_under(
     dims: &[u32],
@@ -60,17 +45,11 @@ pub fn area_under(
     ensures { result ≡ areas (sizes_of dims.now (moved perm.now late.now)) l_starts.now l_rows.now }
 {
     let mut table = [0u32; 4096];
-    area_within(dims, perm, late, l_starts, l_rows, &mut table)
+    let n = dims.len();
+    area_with(dims, perm, late, l_starts, l_rows, &mut table[..n])
 }
 
 // ---- the order
-
-// Are two tables the same?
-pub fn same(a: &[u32], b: &[u32]) -> bool
-    ensures { result ≡ same_list a.now b.now }
-{
-    a == b
-}
 
 // Is `order` the permutation after the late move? That is made in a table of its length.
 pub fn order_with(perm: &[u32], late: &[u32], order: &[u32], table: &mut [u32]) -> bool
@@ -78,16 +57,7 @@ pub fn order_with(perm: &[u32], late: &[u32], order: &[u32], table: &mut [u32]) 
     ensures { result ≡ same_list order.now (moved perm.now late.now) }
 {
     move_late(perm, late, table);
-    same(order, table)
-}
-
-// The same in a table that may be longer.
-pub fn order_within(perm: &[u32], late: &[u32], order: &[u32], table: &mut [u32]) -> bool
-    requires { Permutes (length perm.now) perm.now × (length late.now ≡ length perm.now) × (length perm.now ≤ length table.old) }
-    ensures { result ≡ same_list order.now (moved perm.now late.now) }
-{
-    let n = perm.len();
-    order_with(perm, late, order, &mut table[..n])
+    order == &table[..]
 }
 
 // Is `order` the permutation after the late move?
@@ -96,7 +66,8 @@ pub fn order_is(perm: &[u32], late: &[u32], order: &[u32]) -> bool
     ensures { result ≡ same_list order.now (moved perm.now late.now) }
 {
     let mut table = [0u32; 4096];
-    order_within(perm, late, order, &mut table)
+    let n = perm.len();
+    order_with(perm, late, order, &mut table[..n])
 }
 
 // ---- the offsets

@@ -1,9 +1,9 @@
 -- How a factorization in the first places of longer outputs is one in the whole. Assumes nothing.
-use Rattle.std.specs.Prelude.{◌≡◌, ℕ, ◌+◌, ◌-◌, ◌<◌, T, ◌↔◌, List, ◌++◌, length, take, drop}
+use Rattle.std.specs.Prelude.{◌≡◌, ℕ, ◌+◌, ◌-◌, ◌<◌, T, ◌↔◌, List, ◌++◌, length}
 use mathlib.Core.Path.{refl, sym, ap, ap₂, subst, ◌∙◌}
 use native.Mathlib.Omega.{arith}
 use lib.Ieee.{Float}
-use lib.Seq.{slice, length-take-le}
+use lib.Seq.{slice}
 use Rattle.graph.specs.Sets.{elem, between}
 use Rattle.graph.specs.Links.{rows_in}
 use Rattle.graph.specs.Path.{Stored}
@@ -11,7 +11,7 @@ use Rattle.graph.specs.Count.{products_of}
 use Rattle.graph.specs.Tree.{Parent}
 use Rattle.graph.proofs.SetLaws.{between-elim}
 use Rattle.graph.proofs.SumLaws.{sum-ext}
-use Rattle.refusal.specs.Refusal.{Told, done}
+use Rattle.refusal.specs.Refusal.{done}
 use Rattle.tables.specs.Verdict.{at}
 use Rattle.buckets.proofs.Lists.{front}
 use Rattle.elimination_tree.specs.Tree.{decode, parents_of}

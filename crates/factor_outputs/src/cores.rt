@@ -1,4 +1,5 @@
 // The factorization in outputs that may be longer than their needs: it is worked out in the first places of each.
+// Kept: that the system has passed, as a fact: from `factor_room` down these crates are one call cut in pieces, and a struct around the system would be opened in each.
 ghost use Rattle.refusal.specs.Refusal.{done};
 ghost use Rattle.tables.specs.Sound.{SystemSound};
 ghost use Rattle.factor_setup.specs.Exact.{handed};

@@ -70,6 +70,7 @@ pub fn tell(f: Result<Counts, FactorizeError>, told: &mut [u64; 3], value: &mut 
 }
 
 // The report is written, and the number handed back.
+// Kept: a number, which is what the C interface answers.
 fn carry(
     told: &mut [u64; 3],
     value: &mut [f64; 1],

@@ -1,4 +1,5 @@
 // The factorization in buffers of any length: where one is too short it is refused, else it is worked out in the first places of each.
+// Kept: that the system has passed, as a fact: from `factor_room` down these crates are one call cut in pieces, and a struct around the system would be opened in each.
 ghost use Rattle.refusal.specs.Refusal.{verdict};
 ghost use Rattle.needs.specs.Needs.{need_checks};
 ghost use Rattle.tables.specs.Sound.{SystemSound};

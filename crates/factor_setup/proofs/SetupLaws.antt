@@ -1,29 +1,23 @@
 -- From what the analysis leaves to the tables of a factor, of any system whose tables have passed.
+--     analyzed      what the analysis leaves, said of the system
 --     tree-long     the tree has an entry a block
---     count_long    and so have the counts
 --     store_asks    L's tables can be stored
 --     starts-told   where L's columns begin, by the system's own links
 --     rows_told     and so its rows
---     parents-told  a copy of the tree is the system's
 --     laid          all offsets can be laid out by them
 --     tabled        what the steps leave are the tables of the system
---     again         the values and the tolerance play no part in them
 -- Assumes nothing.
-use Rattle.std.specs.Prelude.{◌≡◌, ℕ, ◌+◌, ◌≤◌, List, [], length, take, replicate}
+use Rattle.std.specs.Prelude.{◌≡◌, ℕ, ◌+◌, ◌≤◌, List, length, take, replicate}
 use mathlib.Core.Path.{sym, ap, subst, ◌∙◌}
 use native.Mathlib.Omega.{arith}
-use lib.Ieee.{Float, nan}
-use lib.ListN.{length-map}
-use lib.Seq.{take_all}
-use Rattle.graph.specs.Symbolic.{columns}
-use Rattle.graph.proofs.SymbolicLaws.{columns_length}
 use Rattle.buckets.specs.Buckets.{lengths}
 use Rattle.tables.specs.Sound.{PlanSound}
-use Rattle.elimination_tree.specs.Tree.{linked_up, parents_of}
+use Rattle.elimination_tree.specs.Tree.{linked_up}
 use Rattle.elimination_tree.proofs.Links.{parents-length}
 use Rattle.order.specs.Order.{sizes_of}
 use Rattle.symbolic.specs.Columns.{Tree, columns_of}
-use Rattle.analysis.specs.Plan.{stored_of, starts_of, rows_of}
+use Rattle.analysis.specs.Plan.{stored_of, starts_of, rows_of, Ready}
+use Rattle.analysis.specs.declared.cores.Analysis.{Analysis}
 use Rattle.analysis.proofs.Same.{same-columns, same-stored, same-starts, same-l-rows, tree_of}
 use Rattle.scalars.specs.Scalars.{scalar_starts}
 use Rattle.scalars.specs.Bodies.{offsets}
@@ -33,16 +27,19 @@ use Rattle.layout.specs.Layout.{unit_starts_of}
 use Rattle.layout.proofs.PlanLaws.{plan_columns, plan_few}
 use Rattle.factor_tables.specs.Given.{Layable}
 use Rattle.factor_tables.proofs.TableLaws.{layable}
-use Rattle.factor_setup.specs.Exact.{system, stored, l_starts, l_rows, Analyzed, Tabled}
+use Rattle.factor_setup.specs.Exact.{stored, l_starts, l_rows, Analyzed, Tabled}
+
+-- ---- the analysis
+
+pub analyzed : (a : System) {count heads into upper : List ℕ} {r : Analysis} → Ready a.dims a.starts a.rows a.perm a.late count heads into upper r
+    → Analyzed a into (take r.entries upper) (take (blocks a) heads) count
+analyzed a g = record { listed = g.listed; parents = g.analyzed.parents; counted = g.analyzed.counted }
 
 -- ---- L's tables
 
 module _ (a : System) (few : blocks a ≤ 4096) {into upper tree count : List ℕ} (g : Analyzed a into upper tree count) where
   pub tree-long : length tree ≡ blocks a
   tree-long = ap length g.parents ∙ parents-length (links a) (blocks a) (links-symm a)
-
-  pub count_long : length count ≡ blocks a
-  count_long = ap length g.counted ∙ (length-map {A = List ℕ} {B = ℕ} (columns (links a) (blocks a) (blocks a)) length ∙ columns_length (links a) (blocks a) (blocks a))
 
   -- what `store` asks
   pub store_asks : (stamps inverse starts rows : List ℕ) → length stamps ≡ blocks a → length inverse ≡ blocks a → length starts ≡ blocks a + 1 → length rows ≡ stored a
@@ -64,10 +61,6 @@ module _ (a : System) (few : blocks a ≤ 4096) {into upper tree count : List �
 
   pub rows_told : (rows : List ℕ) → rows ≡ rows_of (linked_up into upper) (length tree) → rows ≡ l_rows a
   rows_told rows e = e ∙ (ap (rows_of (linked_up into upper)) tree-long ∙ same-l-rows (blocks a) (links a) into upper few g.listed (links-symm a))
-
-  -- the tree, as many places of it as there are blocks
-  pub parents-told : (n : ℕ) (parents : List ℕ) → n ≡ blocks a → parents ≡ take n tree → parents ≡ parents_of (links a) (blocks a)
-  parents-told n parents e p = let h : length tree ≤ n = omega (arith, tree-long) in p ∙ (take_all n tree h ∙ g.parents)
 
 -- ---- the offsets
 
@@ -99,21 +92,3 @@ module _ (a : System) (moved starts rows : List ℕ) (o : moved ≡ order a) (s 
         by_next = x ∙ (ap (λ (k : ℕ). take k starts) en ∙ ap (take (blocks a)) s);
         by_stamps = t ∙ ap (λ (k : ℕ). replicate k 0) em;
       }
-
--- ---- the same tables for any values and any tolerance
-
-pub again : (dims starts rows perm late : List ℕ) (values : List Float) (tol : Float) {moved starts' rows' offsets' sizes' bodies units pivots next stamps : List ℕ}
-    → Tabled (system dims starts rows [] perm late nan) moved starts' rows' offsets' sizes' bodies units pivots next stamps
-    → Tabled (system dims starts rows values perm late tol) moved starts' rows' offsets' sizes' bodies units pivots next stamps
-again dims starts rows perm late values tol t = record {
-  by_order = t.by_order;
-  by_starts = t.by_starts;
-  by_rows = t.by_rows;
-  by_offsets = t.by_offsets;
-  by_sizes = t.by_sizes;
-  by_bodies = t.by_bodies;
-  by_units = t.by_units;
-  by_pivots = t.by_pivots;
-  by_next = t.by_next;
-  by_stamps = t.by_stamps;
-}

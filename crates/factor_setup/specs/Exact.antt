@@ -1,5 +1,5 @@
 -- A factor in lists exactly as long as its tables and numbers: what each holds, for the system that the factor is made from. Assumes nothing.
-use Rattle.std.specs.Prelude.{◌≡◌, ℕ, ◌+◌, List, length, take, replicate}
+use Rattle.std.specs.Prelude.{◌≡◌, ℕ, List, length, take, replicate}
 use Rattle.std.specs.Prelude.{Float}
 use Rattle.scalar.specs.Block.{nans}
 use Rattle.graph.specs.Sets.{from, gather}
@@ -13,7 +13,7 @@ use Rattle.analysis.specs.Plan.{stored_of, starts_of, rows_of}
 use Rattle.scalars.specs.Scalars.{scalar_starts, scalar_count}
 use Rattle.scalars.specs.Bodies.{offsets}
 use Rattle.machine.specs.System.{System, blocks, links, order}
-use Rattle.machine.specs.Machine.{State, column_at, rows_at, Run, going, stopped}
+use Rattle.machine.specs.Machine.{column_at, rows_at, Run, going, stopped}
 use Rattle.layout.specs.Layout.{unit_starts_of, units_need, work_need}
 use Rattle.factor_setup.specs.declared.System as declared
 
@@ -87,20 +87,6 @@ module _ (a : System) where
     pub by_stamps : stamps ≡ replicate (blocks a) 0
 
   -- ---- how long each list is
-
-  pub record TableRoom (moved parents starts' rows' offsets' inverse sizes' stamps bodies unit_starts d_starts places : List ℕ) : Type 0 where
-    pub of_order : length moved ≡ blocks a
-    pub of_parents : length parents ≡ blocks a
-    pub of_starts : length starts' ≡ blocks a + 1
-    pub of_rows : length rows' ≡ stored
-    pub of_offsets : length offsets' ≡ stored + 1
-    pub of_inverse : length inverse ≡ blocks a
-    pub of_sizes : length sizes' ≡ blocks a
-    pub of_stamps : length stamps ≡ blocks a
-    pub of_bodies : length bodies ≡ length a.rows + 1
-    pub of_units : length unit_starts ≡ blocks a + 1
-    pub of_pivots : length d_starts ≡ blocks a + 1
-    pub of_places : length places ≡ blocks a
 
   pub record NumberRoom (values' diag d column : List Float) (inverse places : List ℕ) : Type 0 where
     pub of_values : length values' ≡ numbers

@@ -3,6 +3,11 @@
 
 pub mod cores;
 
+ghost use Rattle.std.specs.Prelude.{◌≡◌};
+ghost use Rattle.factor_setup.specs.Lent.{night_of};
+
+use lists::Night;
+
 // What a factorization is handed.
 #[derive(Clone, Copy, Drop)]
 pub struct System<'a> {
@@ -18,4 +23,42 @@ pub struct System<'a> {
     pub late: &'a [u32],
     // The relative tolerance of a pivot.
     pub tol: f64,
+}
+
+impl<'a> System<'a> {
+    // Its pattern, under its permutation and its late flags.
+    pub fn night(&self) -> Night<'a>
+        ensures { result ≡ night_of self.now }
+    {
+        Night {
+            dims: self.dims,
+            starts: self.starts,
+            rows: self.rows,
+            perm: self.perm,
+            late: self.late,
+        }
+    }
+}
+
+// The outputs of a factorization.
+#[derive(Drop)]
+pub struct Outputs<'a> {
+    pub order: &'a mut [u32],
+    pub parents: &'a mut [u32],
+    pub l_starts: &'a mut [u32],
+    pub l_rows: &'a mut [u32],
+    pub l_offsets: &'a mut [u32],
+    pub l_values: &'a mut [f64],
+    pub diag: &'a mut [f64],
+    pub d: &'a mut [f64],
+}
+
+// What the numbers of a factor are worked out in, beside the scratch of its plan.
+#[derive(Drop)]
+pub struct Work<'a> {
+    pub column: &'a mut [f64],
+    pub bodies: &'a mut [u32],
+    pub unit_starts: &'a mut [u32],
+    pub d_starts: &'a mut [u32],
+    pub places: &'a mut [u32],
 }

@@ -2,6 +2,8 @@
 // first row, which is its parent, is a part of the parent's column. So where it has one row more than that, it repeats the parent's column
 // behind the parent: it is copied, and only the other columns take part in the climbs, in which each row j goes to the end of the
 // columns that reach it. Many rows of L stand in columns that repeat others, and copied they cost next to nothing.
+// Kept: what is known of the parents, and how long is what is lent, as facts: a climb takes the parents' table alone, or one that leads onward in its place, and the lists
+// are lent apart.
 ghost use Rattle.std.specs.Prelude.{◌≡◌, ℕ, ◌+◌, ◌-◌, ◌<◌, ◌≤◌, ◌⊎◌, length, slice_index, slice_index_or};
 ghost use Rattle.graph.specs.Sets.{between, gather};
 ghost use Rattle.graph.specs.Symbolic as L;
@@ -11,6 +13,7 @@ ghost use Rattle.buckets.specs.Buckets.{Laid};
 ghost use Rattle.symbolic.specs.Columns.{Tree, columns_of};
 ghost use Rattle.fill_rows.specs.Repeats.{Rising, repeats, top_of, Onward, Copied};
 
+use symbolic::UpperTree;
 use tables::cores::NONE;
 
 // Whether column k repeats its parent's: whether it has one row more.
@@ -54,16 +57,8 @@ fn link(parent: &[u32], l_starts: &[u32], onward: &mut [u32])
     }
 }
 
-// The places from `from` up to `end` go to those from `to` on, which are all before them.
-fn copy_down(table: &mut [u32], from: usize, end: usize, to: usize)
-    requires { (from ≤ end) × (end ≤ length table.old) × (to + (end - from) ≤ from) }
-    ensures by_index { (t : ℕ) → t < end - from → slice_index table.new (to + t) ≡ slice_index table.old (from + t) }
-    ensures by_index_2 { (x : ℕ) → (x < to) ⊎ (to + (end - from) ≤ x) → slice_index table.new x ≡ slice_index table.old x }
-{
-    table.copy_within(from..end, to);
-}
-
 // The columns that repeat their parents', each from its parent's, from the last column down.
+// Kept: the copies are std's `copy_within`; what is written here is which columns are copied, and from where.
 fn copy_columns(parent: &[u32], l_starts: &[u32], l_rows: &mut [u32])
     requires { Parents parent.now × Rising (length parent.now) l_starts.now × (slice_index_or l_starts.now (length parent.now) 0 ≡ length l_rows.old) }
     ensures { Copied parent.now l_starts.now l_rows.old l_rows.new }
@@ -74,43 +69,48 @@ fn copy_columns(parent: &[u32], l_starts: &[u32], l_rows: &mut [u32])
             let p = up as usize;
             let to = l_starts[k] as usize;
             l_rows[to] = up;
-            copy_down(
-                l_rows,
-                l_starts[p] as usize,
-                l_starts[p + 1] as usize,
-                to + 1,
-            );
+            let from = l_starts[p] as usize;
+            let end = l_starts[p + 1] as usize;
+            l_rows.copy_within(from..end, to + 1);
         }
     }
 }
 
 // The rows of L into exactly the places that `l_starts` gives. `stamp`, `onward` and `next` are scratch.
+// Not joined into its caller: there its loops would keep their lists on the stack.
+#[inline(never)]
 pub fn fill(
-    starts: &[u32],
-    rows: &[u32],
-    parent: &[u32],
+    t: &UpperTree,
     l_starts: &[u32],
     stamp: &mut [u32],
     onward: &mut [u32],
     next: &mut [u32],
     l_rows: &mut [u32],
 )
-    requires tree { Tree (length parent.now) starts.now rows.now parent.now }
-    requires stamp_len { (length stamp.old ≡ length parent.now) × (length onward.old ≡ length parent.now) × (length next.old ≡ length parent.now) }
-    requires laid { Laid (columns_of starts.now rows.now (length parent.now)) l_starts.now (length l_rows.old) }
-    ensures { l_rows.new ≡ gather (L.rows (linked_up starts.now rows.now) (length parent.now)) (between 0 (length parent.now)) }
+    requires tree { Tree (length t.now.parent.now) t.now.starts.now t.now.rows.now t.now.parent.now }
+    requires stamp_len { (length stamp.old ≡ length t.now.parent.now) × (length onward.old ≡ length t.now.parent.now) × (length next.old ≡ length t.now.parent.now) }
+    requires laid { Laid (columns_of t.now.starts.now t.now.rows.now (length t.now.parent.now)) l_starts.now (length l_rows.old) }
+    ensures { l_rows.new ≡ gather (L.rows (linked_up t.now.starts.now t.now.rows.now) (length t.now.parent.now)) (between 0 (length t.now.parent.now)) }
 {
     buckets::cores::fill(stamp, 0);
     buckets::cores::copy(l_starts, next);
-    link(parent, l_starts, onward);
-    let n = parent.len();
+    link(t.parent, l_starts, onward);
+    let n = t.parent.len();
     for j in 0..n {
-        let from = starts[j] as usize;
-        let to = starts[j + 1] as usize;
+        let from = t.starts[j] as usize;
+        let to = t.starts[j + 1] as usize;
         let mark = j as u32 + 1;
-        let at = top(parent, l_starts, onward, j as u32) as usize;
+        let at = top(t.parent, l_starts, onward, j as u32) as usize;
         stamp[at] = mark;
-        symbolic::cores::store_climbs(onward, &rows[from..to], j as u32, mark, stamp, next, l_rows);
+        symbolic::cores::store_climbs(
+            onward,
+            &t.rows[from..to],
+            j as u32,
+            mark,
+            stamp,
+            next,
+            l_rows,
+        );
     }
-    copy_columns(parent, l_starts, l_rows);
+    copy_columns(t.parent, l_starts, l_rows);
 }

@@ -51,7 +51,7 @@ module _ (t : Tables) (unit_starts d_starts places : List ℕ) (j : ℕ) where
           of_d = omega (arith, diagonal.pivots j n h (omega arith), diagonal.all_pivots);
         }
 
-    pub rows_fit : StoreFit t.sizes places t.l_rows t.l_offsets j from end c values
+    pub rows_fit : StoreFit t places j c values
     rows_fit =
         record {
           in_tables = omega (arith, rows.column j h, rows.count);
@@ -104,7 +104,7 @@ module _ (t : Tables) (unit_starts d_starts places : List ℕ) (j : ℕ) where
 
     module _ (rows : RowsLaid t (length t.sizes) (length values) (length c)) (diagonal : DiagonalLaid t.sizes unit_starts d_starts (length t.sizes) (length diag) (length d))
         (known : j < length t.sizes) (k : LdltResult) (answers : Answers (Ok k))
-        (values' : List Float) (stores : Stores t.sizes places t.l_rows t.l_offsets j from end unit pivots c values values')
+        (values' : List Float) (stores : Stores t places j end unit pivots c values values')
         (a : System) (count : ℕ) (s : State) (b : Before t unit_starts d_starts a tol j count places c values diag d s) where
       -- a row of the table is one of the column
       row_on : (u : ℕ) → from ≤ u → u < end → T (elem (at t.l_rows u) (on_at t j))

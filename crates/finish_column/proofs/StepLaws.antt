@@ -1,12 +1,11 @@
 -- The two steps of the end of a column, from what the code writes.
 --     decomposes    the diagonal block
---     none-stored, one_more, all_stored    the rows: where the loop begins, a turn, where it ends
+--     one_more      the rows: a turn of the loop
 -- Assumes nothing.
 use Rattle.std.specs.Prelude.{◌≡◌, ℕ, ◌+◌, ◌*◌, ◌<◌, ◌≤◌, List, length}
 use mathlib.Core.Logic.{inl}
-use mathlib.Core.Path.{refl, subst, ◌∙◌}
+use mathlib.Core.Path.{subst, ◌∙◌}
 use native.Mathlib.Decide.{dec_lt}
-use native.Mathlib.Nat.{le_antisymm}
 use native.Mathlib.Omega.{arith}
 use lib.Ieee.{Float}
 use Rattle.scalar.specs.Block.{within}
@@ -18,6 +17,7 @@ use Rattle.block_diag_ldlt.specs.declared.cores.BlockError.{BlockError}
 use Rattle.tables.specs.Verdict.{at}
 use Rattle.block_product.specs.Working.{slot}
 use Rattle.block_product.proofs.SlotLaws.{slot-written, slot-other}
+use Rattle.layout.specs.Layout.{Tables, side, start_of, stop_of}
 use Rattle.finish_column.specs.Steps.{BlockFit, Decomposes, StoreFit, Stores}
 
 -- ---- the diagonal block
@@ -42,41 +42,33 @@ decomposes sizes places unit_starts d_starts j tol c diag d r unit pivots fits l
 
 -- ---- the rows
 
-module _ (sizes places rows offsets : List ℕ) (j from : ℕ) (unit d c values₀ : List Float) where
+module _ (t : Tables) (places : List ℕ) (j : ℕ) (unit d c values₀ : List Float) where
   -- the rows before place u are stored
   abbrev pub UpTo : ℕ → List Float → Type 0
-  UpTo u values = Stores sizes places rows offsets j from u unit d c values₀ values
+  UpTo u values = Stores t places j u unit d c values₀ values
 
   -- the block of the row at place u, right-solved
   abbrev solved : ℕ → List Float
-  solved u = ldlt_right_matsolve (at sizes (at rows u)) (at sizes j) unit d (slot (at places (at rows u)) (at sizes (at rows u) * at sizes j) c)
-
-  -- where it begins
-  pub none-stored : UpTo from values₀
-  none-stored = record { own = λ u le lt. absurd (omega arith); before = λ o n h. refl }
+  solved u = ldlt_right_matsolve (side t (at t.l_rows u)) (side t j) unit d (slot (at places (at t.l_rows u)) (side t (at t.l_rows u) * side t j) c)
 
   -- a turn: the body of the row at place u is written, and the others stay
-  pub one_more : (end u : ℕ) (values values' : List Float) → StoreFit sizes places rows offsets j from end (length c) (length values)
-      → from ≤ u → u < end → UpTo u values → length (solved u) ≡ at sizes (at rows u) * at sizes j
-      → values' ≡ within (at offsets u) (at sizes (at rows u) * at sizes j) (λ x. solved u) values → UpTo (u + 1) values'
-  one_more end u values values' fits le lt up long e =
+  pub one_more : (u : ℕ) (values values' : List Float) → StoreFit t places j (length c) (length values)
+      → start_of t j ≤ u → u < stop_of t j → UpTo u values → length (solved u) ≡ side t (at t.l_rows u) * side t j
+      → values' ≡ within (at t.l_offsets u) (side t (at t.l_rows u) * side t j) (λ x. solved u) values → UpTo (u + 1) values'
+  one_more u values values' fits le lt up long e =
       record {
         own = λ v le' lt'. rw e (at_row v le' lt' (dec_lt v u));
         before = λ o n h.
-            rw e (slot-other (at offsets u) _ (λ x. solved u) values (fits.body u le lt) long o n (inl (h u le (omega arith))) ∙ up.before o n (λ v le' lt'. h v le' (omega arith)));
+            rw e (slot-other (at t.l_offsets u) _ (λ x. solved u) values (fits.body u le lt) long o n (inl (h u le (omega arith))) ∙ up.before o n (λ v le' lt'. h v le' (omega arith)));
       }
     where
       written : List Float
-      written = within (at offsets u) (at sizes (at rows u) * at sizes j) (λ x. solved u) values
+      written = within (at t.l_offsets u) (side t (at t.l_rows u) * side t j) (λ x. solved u) values
 
-      at_row : (v : ℕ) → from ≤ v → v < u + 1 → Dec (v < u) → slot (at offsets v) (at sizes (at rows v) * at sizes j) written ≡ solved v
+      at_row : (v : ℕ) → start_of t j ≤ v → v < u + 1 → Dec (v < u) → slot (at t.l_offsets v) (side t (at t.l_rows v) * side t j) written ≡ solved v
       at_row v le' lt' (yes l) =
-          slot-other (at offsets u) _ (λ x. solved u) values (fits.body u le lt) long (at offsets v) _ (inl (fits.after v u le' l lt)) ∙ up.own v le' l
+          slot-other (at t.l_offsets u) _ (λ x. solved u) values (fits.body u le lt) long (at t.l_offsets v) _ (inl (fits.after v u le' l lt)) ∙ up.own v le' l
       at_row v le' lt' (no l) =
           let e : u ≡ v = omega arith in
-          subst (λ (v : ℕ). slot (at offsets v) (at sizes (at rows v) * at sizes j) written ≡ solved v) e
-          (slot-written (at offsets u) _ (λ x. solved u) values (fits.body u le lt) long)
-
-  -- where it ends
-  pub all_stored : (end u : ℕ) (values : List Float) → u ≤ end → end ≤ u → UpTo u values → UpTo end values
-  all_stored end u values le ge up = subst (λ (u : ℕ). UpTo u values) (le_antisymm le ge) up
+          subst (λ (v : ℕ). slot (at t.l_offsets v) (side t (at t.l_rows v) * side t j) written ≡ solved v) e
+          (slot-written (at t.l_offsets u) _ (λ x. solved u) values (fits.body u le lt) long)

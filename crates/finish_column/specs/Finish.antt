@@ -13,6 +13,14 @@ use Rattle.machine.specs.Machine.{State, Column, no_column, touched, made, refus
 use Rattle.block_product.specs.Working.{Shows}
 use Rattle.column_products.specs.Columns.{Holds}
 use Rattle.layout.specs.Layout.{Tables, side, start_of, stop_of, rows_at, on_at, plan_at}
+use Rattle.lists.specs.declared.Numbers.{Numbers}
+
+-- each list of the numbers is still the one that was lent, and as long
+pub record SameNumbers (f g : Numbers) : Type 0 where
+  pub l_values : (g.l_values.ghost_name ≡ f.l_values.ghost_name) × (length g.l_values.now ≡ length f.l_values.now)
+  pub diag : (g.diag.ghost_name ≡ f.diag.ghost_name) × (length g.diag.now ≡ length f.diag.now)
+  pub d : (g.d.ghost_name ≡ f.d.ghost_name) × (length g.d.now ≡ length f.d.now)
+  pub cache : (g.cache.ghost_name ≡ f.cache.ghost_name) × (length g.cache.now ≡ length f.cache.now)
 
 module _ (t : Tables) (unit_starts d_starts : List ℕ) where
   -- Every column of a list is held: its rows are those of the row table, and the flat lists hold their bodies, its unit factor and d.

@@ -7,6 +7,7 @@ use Rattle.dense_pivots.specs.declared.LdltResult.{LdltResult}
 use Rattle.block_diag_ldlt.specs.declared.cores.BlockError.{BlockError}
 use Rattle.tables.specs.Verdict.{at}
 use Rattle.block_product.specs.Working.{slot}
+use Rattle.layout.specs.Layout.{Tables, side, start_of, stop_of}
 
 -- ---- the diagonal block
 
@@ -25,19 +26,19 @@ module _ (sizes places unit_starts d_starts : List ℕ) (j : ℕ) where
     pub units_before : (o n : ℕ) → o + n ≤ at unit_starts j → slot o n diag' ≡ slot o n diag
     pub d_before : (o n : ℕ) → o + n ≤ at d_starts j → slot o n d' ≡ slot o n d
 
--- ---- the rows, at places `from` to `end` of the tables
+-- ---- the rows, at the places of column j in the tables
 
-module _ (sizes places rows offsets : List ℕ) (j from end : ℕ) where
+module _ (t : Tables) (places : List ℕ) (j : ℕ) where
   -- what is needed: each block of the working column and each body lies in its list, and a body ends before the later ones begin
   pub record StoreFit (c values : ℕ) : Type 0 where
-    pub in_tables : (from ≤ end) × (end ≤ length rows) × (end ≤ length offsets)
-    pub row : (u : ℕ) → from ≤ u → u < end → (at rows u < length sizes) × (at rows u < length places)
-    pub block : (u : ℕ) → from ≤ u → u < end → at places (at rows u) + at sizes (at rows u) * at sizes j ≤ c
-    pub body : (u : ℕ) → from ≤ u → u < end → at offsets u + at sizes (at rows u) * at sizes j ≤ values
-    pub after : (u v : ℕ) → from ≤ u → u < v → v < end → at offsets u + at sizes (at rows u) * at sizes j ≤ at offsets v
+    pub in_tables : (j + 1 < length t.l_starts) × (start_of t j ≤ stop_of t j) × (stop_of t j ≤ length t.l_rows) × (stop_of t j ≤ length t.l_offsets)
+    pub row : (u : ℕ) → start_of t j ≤ u → u < stop_of t j → (at t.l_rows u < length t.sizes) × (at t.l_rows u < length places)
+    pub block : (u : ℕ) → start_of t j ≤ u → u < stop_of t j → at places (at t.l_rows u) + side t (at t.l_rows u) * side t j ≤ c
+    pub body : (u : ℕ) → start_of t j ≤ u → u < stop_of t j → at t.l_offsets u + side t (at t.l_rows u) * side t j ≤ values
+    pub after : (u v : ℕ) → start_of t j ≤ u → u < v → v < stop_of t j → at t.l_offsets u + side t (at t.l_rows u) * side t j ≤ at t.l_offsets v
 
-  -- what is promised: each block, right-solved, stands at its offset; what ends before all of them is not changed
-  pub record Stores (unit d c values values' : List Float) : Type 0 where
-    pub own : (u : ℕ) → from ≤ u → u < end → slot (at offsets u) (at sizes (at rows u) * at sizes j) values'
-        ≡ ldlt_right_matsolve (at sizes (at rows u)) (at sizes j) unit d (slot (at places (at rows u)) (at sizes (at rows u) * at sizes j) c)
-    pub before : (o n : ℕ) → ((u : ℕ) → from ≤ u → u < end → o + n ≤ at offsets u) → slot o n values' ≡ slot o n values
+  -- what is promised of those before `end`: each block, right-solved, stands at its offset; what ends before all of them is not changed
+  pub record Stores (end : ℕ) (unit d c values values' : List Float) : Type 0 where
+    pub own : (u : ℕ) → start_of t j ≤ u → u < end → slot (at t.l_offsets u) (side t (at t.l_rows u) * side t j) values'
+        ≡ ldlt_right_matsolve (side t (at t.l_rows u)) (side t j) unit d (slot (at places (at t.l_rows u)) (side t (at t.l_rows u) * side t j) c)
+    pub before : (o n : ℕ) → ((u : ℕ) → start_of t j ≤ u → u < end → o + n ≤ at t.l_offsets u) → slot o n values' ≡ slot o n values

@@ -1,81 +1,64 @@
 // The end of a column, where the plan's tables are known to be good.
-ghost use Rattle.std.specs.Prelude.{◌≡◌, ◌*◌, ◌<◌, length};
+// Kept: that a unit factor and a d have as many numbers as their size says is about slices that are lent beside it.
+ghost use Rattle.std.specs.Prelude.{◌≡◌, ◌+◌, ◌*◌, ◌<◌, length};
 ghost use Rattle.tables.specs.Verdict.{at};
 ghost use Rattle.dense_solve_right.specs.SolveRight.{ldlt_right_matsolve};
 ghost use Rattle.block_product.specs.Working.{slot};
-ghost use Rattle.layout.specs.Layout.{tables, RowsLaid, Placed, DiagonalLaid};
+ghost use Rattle.layout.specs.Layout.{laid, RowsLaid, Placed, DiagonalLaid};
 ghost use Rattle.finish_column.specs.Steps.{BlockFit, Decomposes, StoreFit, Stores};
-ghost use Rattle.finish_column.specs.Finish.{Finishes};
+ghost use Rattle.finish_column.specs.Finish.{Finishes, SameNumbers};
 
 use block_diag_ldlt::cores::{BlockError, decompose_core};
 use dense_pivots::LdltResult;
+use lists::{Numbers, Tables};
 use tiled_right::cores::ldlt_right_matsolve_tiled;
 
 // The diagonal block of column j is decomposed, and its unit factor and d go to their places. Where that is refused they are NaNs, and
-// no row is stored; otherwise the rows of the column, solved by them from the right, go to their places in L's values.
+// no row is stored; otherwise the rows of the column, solved by them from the right, go to their places in L's values. The cache is not
+// touched.
 pub fn finish_column(
-    sizes: &[u32],
+    t: &Tables,
     places: &[u32],
-    l_starts: &[u32],
-    l_rows: &[u32],
-    l_offsets: &[u32],
-    unit_starts: &[u32],
-    d_starts: &[u32],
     j: usize,
     tol: f64,
     c: &[f64],
-    values: &mut [f64],
-    diag: &mut [f64],
-    d: &mut [f64],
+    f: &mut Numbers,
 ) -> Result<LdltResult, BlockError>
-    requires rows_laid { RowsLaid (tables sizes.now l_starts.now l_rows.now l_offsets.now) (length sizes.now) (length values.old) (length c.now) }
-    requires diagonal_laid { DiagonalLaid sizes.now unit_starts.now d_starts.now (length sizes.now) (length diag.old) (length d.old) }
-    requires placed { Placed (tables sizes.now l_starts.now l_rows.now l_offsets.now) places.now j × (j < length sizes.now) × (length places.now ≡ length sizes.now) }
-    ensures { Finishes (tables sizes.now l_starts.now l_rows.now l_offsets.now) unit_starts.now d_starts.now tol j places.now c.now values.old diag.old d.old (result, values.new, diag.new, d.new) }
+    requires rows_laid { RowsLaid (laid t.now) (length t.now.sizes.now) (length f.old.l_values.now) (length c.now) }
+    requires diagonal_laid { DiagonalLaid t.now.sizes.now t.now.unit_starts.now t.now.d_starts.now (length t.now.sizes.now) (length f.old.diag.now) (length f.old.d.now) }
+    requires placed { Placed (laid t.now) places.now j × (j < length t.now.sizes.now) × (length places.now ≡ length t.now.sizes.now) }
+    ensures finishes { Finishes (laid t.now) t.now.unit_starts.now t.now.d_starts.now tol j places.now c.now f.old.l_values.now f.old.diag.now f.old.d.now (result, f.new.l_values.now, f.new.diag.now, f.new.d.now) }
+    ensures cache { f.new.cache.now ≡ f.old.cache.now }
+    ensures same { SameNumbers f.old f.new }
 {
-    let k = decompose_at(sizes, places, unit_starts, d_starts, j, tol, c, diag, d)?;
-    let from = l_starts[j] as usize;
-    let end = l_starts[j + 1] as usize;
-    store_at(
-        sizes,
-        places,
-        l_rows,
-        l_offsets,
-        unit_starts,
-        d_starts,
-        j,
-        from,
-        end,
-        c,
-        &diag[..],
-        &d[..],
-        values,
-    );
+    let l_values = &mut *f.l_values;
+    let diag = &mut *f.diag;
+    let d = &mut *f.d;
+    let k = decompose_at(t, places, j, tol, c, diag, d)?;
+    store_at(t, places, j, c, &diag[..], &d[..], l_values);
     Ok(k)
 }
 
 // The unit factor and d of the diagonal block of column j go to their places.
 fn decompose_at(
-    sizes: &[u32],
+    t: &Tables,
     places: &[u32],
-    unit_starts: &[u32],
-    d_starts: &[u32],
     j: usize,
     tol: f64,
     c: &[f64],
     diag: &mut [f64],
     d: &mut [f64],
 ) -> Result<LdltResult, BlockError>
-    requires { BlockFit sizes.now places.now unit_starts.now d_starts.now j (length c.now) (length diag.old) (length d.old) }
-    ensures { Decomposes sizes.now places.now unit_starts.now d_starts.now j tol c.now diag.old d.old result diag.new d.new }
+    requires { BlockFit t.now.sizes.now places.now t.now.unit_starts.now t.now.d_starts.now j (length c.now) (length diag.old) (length d.old) }
+    ensures { Decomposes t.now.sizes.now places.now t.now.unit_starts.now t.now.d_starts.now j tol c.now diag.old d.old result diag.new d.new }
 {
-    let w = sizes[j] as usize;
+    let w = t.sizes[j] as usize;
     let area = w * w;
     let place = places[j] as usize;
     let place_end = place + area;
-    let u = unit_starts[j] as usize;
+    let u = t.unit_starts[j] as usize;
     let u_end = u + area;
-    let s = d_starts[j] as usize;
+    let s = t.d_starts[j] as usize;
     let s_end = s + w;
     decompose_core(
         w,
@@ -86,72 +69,52 @@ fn decompose_at(
     )
 }
 
-// The same for its rows, at places `from` to `end` of the tables, with the factors that stand in diag and d.
+// The rows of column j are solved by the factors that stand in diag and d, and go to their places in L's values.
 fn store_at(
-    sizes: &[u32],
+    t: &Tables,
     places: &[u32],
-    l_rows: &[u32],
-    l_offsets: &[u32],
-    unit_starts: &[u32],
-    d_starts: &[u32],
     j: usize,
-    from: usize,
-    end: usize,
     c: &[f64],
     diag: &[f64],
     d: &[f64],
     values: &mut [f64],
 )
-    requires block_fit { BlockFit sizes.now places.now unit_starts.now d_starts.now j (length c.now) (length diag.now) (length d.now) }
-    requires store_fit { StoreFit sizes.now places.now l_rows.now l_offsets.now j from end (length c.now) (length values.old) }
-    ensures { Stores sizes.now places.now l_rows.now l_offsets.now j from end (slot (at unit_starts.now j) (at sizes.now j * at sizes.now j) diag.now) (slot (at d_starts.now j) (at sizes.now j) d.now) c.now values.old values.new }
+    requires block_fit { BlockFit t.now.sizes.now places.now t.now.unit_starts.now t.now.d_starts.now j (length c.now) (length diag.now) (length d.now) }
+    requires store_fit { StoreFit (laid t.now) places.now j (length c.now) (length values.old) }
+    ensures { Stores (laid t.now) places.now j (at t.now.l_starts.now (j + 1)) (slot (at t.now.unit_starts.now j) (at t.now.sizes.now j * at t.now.sizes.now j) diag.now) (slot (at t.now.d_starts.now j) (at t.now.sizes.now j) d.now) c.now values.old values.new }
 {
-    let w = sizes[j] as usize;
-    let u = unit_starts[j] as usize;
+    let w = t.sizes[j] as usize;
+    let u = t.unit_starts[j] as usize;
     let u_end = u + w * w;
-    let s = d_starts[j] as usize;
+    let s = t.d_starts[j] as usize;
     let s_end = s + w;
-    store_rows(
-        sizes,
-        places,
-        l_rows,
-        l_offsets,
-        j,
-        from,
-        end,
-        &diag[u..u_end],
-        &d[s..s_end],
-        c,
-        values,
-    );
+    store_rows(t, places, j, &diag[u..u_end], &d[s..s_end], c, values);
 }
 
-// The rows of column j, at places `from` to `end` of the tables, are solved by the unit factor and d, and go to their places in L's values.
+// The same with the unit factor and d of column j.
 fn store_rows(
-    sizes: &[u32],
+    t: &Tables,
     places: &[u32],
-    l_rows: &[u32],
-    l_offsets: &[u32],
     j: usize,
-    from: usize,
-    end: usize,
     unit: &[f64],
     d: &[f64],
     c: &[f64],
     values: &mut [f64],
 )
-    requires store_fit { StoreFit sizes.now places.now l_rows.now l_offsets.now j from end (length c.now) (length values.old) }
-    requires j_in_bounds { (j < length sizes.now) × (length unit.now ≡ at sizes.now j * at sizes.now j) × (length d.now ≡ at sizes.now j) }
-    ensures { Stores sizes.now places.now l_rows.now l_offsets.now j from end unit.now d.now c.now values.old values.new }
+    requires store_fit { StoreFit (laid t.now) places.now j (length c.now) (length values.old) }
+    requires j_in_bounds { (j < length t.now.sizes.now) × (length unit.now ≡ at t.now.sizes.now j * at t.now.sizes.now j) × (length d.now ≡ at t.now.sizes.now j) }
+    ensures { Stores (laid t.now) places.now j (at t.now.l_starts.now (j + 1)) unit.now d.now c.now values.old values.new }
 {
-    let w = sizes[j] as usize;
+    let w = t.sizes[j] as usize;
+    let from = t.l_starts[j] as usize;
+    let end = t.l_starts[j + 1] as usize;
     for u in from..end {
-        let i = l_rows[u] as usize;
-        let h = sizes[i] as usize;
+        let i = t.l_rows[u] as usize;
+        let h = t.sizes[i] as usize;
         let area = h * w;
         let place = places[i] as usize;
         let place_end = place + area;
-        let o = l_offsets[u] as usize;
+        let o = t.l_offsets[u] as usize;
         let o_end = o + area;
         store_block(h, w, unit, d, &c[place..place_end], &mut values[o..o_end]);
     }

@@ -4,7 +4,7 @@
 --     solvable      and the first places of the lists are a factor that can be solved with
 --     solved        so the solution is that of the last state, and so are the marks
 -- Assumes nothing.
-use Rattle.std.specs.Prelude.{◌≡◌, ℕ, ◌+◌, ◌<◌, ◌≤◌, Bool, true, false, cond, ltb, List, [], ◌∷◌, ◌++◌, length, take, drop, Result, Ok, Err}
+use Rattle.std.specs.Prelude.{◌≡◌, ℕ, ◌+◌, ◌<◌, ◌≤◌, Bool, true, false, cond, ltb, List, [], ◌∷◌, ◌++◌, length, take, drop, Ok}
 use mathlib.Core.Bool.{false≢true}
 use mathlib.Core.Path.{refl, sym, ap, ◌∙◌}
 use native.Mathlib.Omega.{arith}
@@ -21,7 +21,7 @@ use Rattle.scalars.specs.Scalars.{scalar_count}
 use Rattle.machine.specs.System.{System, blocks, order}
 use Rattle.machine.specs.Machine.{State, column_at, Run, going, stopped, run}
 use Rattle.layout.specs.Layout.{units_need}
-use Rattle.factor_setup.specs.Exact.{sizes, stored, numbers, l_starts, l_rows, l_offsets, values_after, units_after, pivots_after}
+use Rattle.factor_setup.specs.Exact.{stored, numbers, l_starts, l_rows, l_offsets, values_after, units_after, pivots_after}
 use Rattle.factor_core.specs.Factorize as factorization
 use Rattle.factor_core.proofs.StopLaws.{accepted-run}
 use Rattle.analysis.specs.declared.cores.Counts.{Counts}

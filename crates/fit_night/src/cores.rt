@@ -12,6 +12,7 @@ ghost use Rattle.fit_night.specs.Night.{Room, Solves};
 use factor_setup::System;
 use fit_factor::cores::{FitError, factor_core};
 use fit_solve::cores::solve_room;
+use lists::Factor;
 use marks::cores::mark_core;
 
 // What an accepted night hands back: L's blocks below the diagonal, the block products worked through, and the silent scalars.
@@ -51,10 +52,17 @@ pub fn night_core(s: &System, x: &mut [f64], marks: &mut [u8]) -> Result<Tally, 
     let stored = counts.stored;
     let numbers = counts.numbers;
     let products = counts.products;
-    let silent = solve_parts(
-        s.dims, s.tol, stored, numbers, &order, &l_starts, &l_rows, &l_offsets, &l_values, &diag,
-        &d, x, marks,
-    );
+    let longer = Factor {
+        order: &order,
+        parents: &parents,
+        l_starts: &l_starts,
+        l_rows: &l_rows,
+        l_offsets: &l_offsets,
+        l_values: &l_values,
+        diag: &diag,
+        d: &d,
+    };
+    let silent = solve_parts(s.dims, s.tol, stored, numbers, &longer, x, marks);
     Ok(Tally {
         stored,
         products,
@@ -62,26 +70,20 @@ pub fn night_core(s: &System, x: &mut [f64], marks: &mut [u8]) -> Result<Tally, 
     })
 }
 
-// The solve and the marks with a factor in the first places of longer lists. Returns how many scalars are silent.
+// The solve and the marks with a factor in the first places of longer lists; its parents are not read. Returns how many scalars are silent.
 pub fn solve_parts(
     dims: &[u32],
     tol: f64,
     stored: usize,
     numbers: usize,
-    order: &[u32],
-    l_starts: &[u32],
-    l_rows: &[u32],
-    l_offsets: &[u32],
-    l_values: &[f64],
-    diag: &[f64],
-    d: &[f64],
+    longer: &Factor,
     x: &mut [f64],
     marks: &mut [u8],
 ) -> usize
-    requires solvable { Solvable dims.now (take (length dims.now) order.now) (take (length dims.now + 1) l_starts.now) (take stored l_rows.now) (take (stored + 1) l_offsets.now) numbers (units_need dims.now) (scalar_count dims.now) }
-    requires room { Room dims.now stored numbers (length order.now) (length l_starts.now) (length l_rows.now) (length l_offsets.now) (length l_values.now) (length diag.now) (length d.now) (length x.old) (length marks.old) }
-    ensures solved_by { SolvedBy dims.now (take (length dims.now) order.now) (take (length dims.now + 1) l_starts.now) (take stored l_rows.now) (take (stored + 1) l_offsets.now) (take numbers l_values.now) (take (units_need dims.now) diag.now) (take (scalar_count dims.now) d.now) x.old x.new }
-    ensures value { (result ≡ silent_of tol (take (scalar_count dims.now) d.now)) × (marks.new ≡ marks_of dims.now (take (length dims.now) order.now) tol (take (scalar_count dims.now) d.now)) }
+    requires solvable { Solvable dims.now (take (length dims.now) longer.now.order.now) (take (length dims.now + 1) longer.now.l_starts.now) (take stored longer.now.l_rows.now) (take (stored + 1) longer.now.l_offsets.now) numbers (units_need dims.now) (scalar_count dims.now) }
+    requires room { Room dims.now stored numbers (length longer.now.order.now) (length longer.now.l_starts.now) (length longer.now.l_rows.now) (length longer.now.l_offsets.now) (length longer.now.l_values.now) (length longer.now.diag.now) (length longer.now.d.now) (length x.old) (length marks.old) }
+    ensures solved_by { SolvedBy dims.now (take (length dims.now) longer.now.order.now) (take (length dims.now + 1) longer.now.l_starts.now) (take stored longer.now.l_rows.now) (take (stored + 1) longer.now.l_offsets.now) (take numbers longer.now.l_values.now) (take (units_need dims.now) longer.now.diag.now) (take (scalar_count dims.now) longer.now.d.now) x.old x.new }
+    ensures value { (result ≡ silent_of tol (take (scalar_count dims.now) longer.now.d.now)) × (marks.new ≡ marks_of dims.now (take (length dims.now) longer.now.order.now) tol (take (scalar_count dims.now) longer.now.d.now)) }
 {
     let mut old_starts = [0u32; 129];
     let n = dims.len();
@@ -89,23 +91,16 @@ pub fn solve_parts(
     let stored1 = stored + 1;
     let scalars = x.len();
     let units = factor_tables::cores::unit_numbers(dims);
-    solve_room(
-        dims,
-        &order[..n],
-        &l_starts[..n1],
-        &l_rows[..stored],
-        &l_offsets[..stored1],
-        &l_values[..numbers],
-        &diag[..units],
-        &d[..scalars],
-        x,
-    );
-    mark_core(
-        dims,
-        &order[..n],
-        &d[..scalars],
-        tol,
-        &mut old_starts,
-        marks,
-    )
+    let f = Factor {
+        order: &longer.order[..n],
+        parents: longer.parents,
+        l_starts: &longer.l_starts[..n1],
+        l_rows: &longer.l_rows[..stored],
+        l_offsets: &longer.l_offsets[..stored1],
+        l_values: &longer.l_values[..numbers],
+        diag: &longer.diag[..units],
+        d: &longer.d[..scalars],
+    };
+    solve_room(dims, &f, x);
+    mark_core(dims, f.order, f.d, tol, &mut old_starts, marks)
 }

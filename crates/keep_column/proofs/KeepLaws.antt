@@ -1,12 +1,11 @@
 -- The rows of a finished column, kept one after the other.
---     row_kept, row_left             one row: written, or past the cache
---     none_kept, one_more, all_kept  where the loop begins, a turn, where it ends
+--     row_kept    one row that is written
+--     one_more    a turn of the loop over the rows
 -- Assumes nothing.
 use Rattle.std.specs.Prelude.{◌≡◌, ℕ, ◌+◌, ◌*◌, ◌<◌, ◌≤◌, List, length}
 use mathlib.Core.Logic.{inl}
-use mathlib.Core.Path.{refl, sym, subst, ◌∙◌}
+use mathlib.Core.Path.{sym, subst, ◌∙◌}
 use native.Mathlib.Decide.{dec_lt}
-use native.Mathlib.Nat.{le_antisymm}
 use native.Mathlib.Omega.{arith}
 use lib.Ieee.{Float}
 use Rattle.scalar.specs.Block.{within}
@@ -32,18 +31,12 @@ module _ (h w o : ℕ) (values unit cache : List Float) where
         before = λ p n b. rw e (slot-other o (h * w) (λ x. q) cache fits long p n (inl b));
       }
 
-  pub row_left : (o + h * w ≤ length cache → ⊥) → KeptRow h w o values unit cache cache
-  row_left past = record { long = refl; own = λ f. absurd (past f); before = λ p n b. refl }
-
 -- ---- the rows
 
 module _ (sizes rows offsets : List ℕ) (k from : ℕ) (values unit cache₀ : List Float) where
   -- the rows before place u are kept
   abbrev pub UpTo : ℕ → List Float → Type 0
   UpTo u cache = Keeps sizes rows offsets k from u values unit cache₀ cache
-
-  pub none_kept : UpTo from cache₀
-  none_kept = record { long = refl; own = λ u le lt. absurd (omega arith); before = λ p n h. refl }
 
   pub one_more : (end u : ℕ) (cache cache' : List Float) → KeepFit sizes rows offsets k from end (length values) → from ≤ u → u < end → UpTo u cache
       → KeptRow (at sizes (at rows u)) (at sizes k) (at offsets u) values unit cache cache' → UpTo (u + 1) cache'
@@ -63,6 +56,3 @@ module _ (sizes rows offsets : List ℕ) (k from : ℕ) (values unit cache₀ : 
           let g : at offsets u + at sizes (at rows u) * at sizes k ≤ length cache₀ = subst (λ (v : ℕ). at offsets v + at sizes (at rows v) * at sizes k ≤ length cache₀) (sym e) f in
           subst (λ (v : ℕ). slot (at offsets v) (at sizes (at rows v) * at sizes k) cache' ≡ mat_product (at sizes (at rows v)) (at sizes k) (at sizes k) (slot (at offsets v) (at sizes (at rows v) * at sizes k) values) unit) e
           (row.own (subst (λ (n : ℕ). at offsets u + at sizes (at rows u) * at sizes k ≤ n) (sym up.long) g))
-
-  pub all_kept : (end u : ℕ) (cache : List Float) → u ≤ end → end ≤ u → UpTo u cache → UpTo end cache
-  all_kept end u cache le ge up = subst (λ (u : ℕ). UpTo u cache) (le_antisymm le ge) up

@@ -1,69 +1,33 @@
 // The rows of a finished column, where the plan's tables are known to be good.
+// Kept: that w is not 0 and that column j is one of the tables', which other contracts ask too: each is said of a number that is handed on beside
+// the slices.
 ghost use Rattle.std.specs.Prelude.{◌≡◌, ◌+◌, ◌*◌, ◌<◌, ◌≤◌, length};
 ghost use Rattle.tables.specs.Verdict.{at};
 ghost use Rattle.block_product.specs.Working.{slot};
 ghost use Rattle.keep_column.specs.Keep.{KeepFit, Keeps, KeptRow};
 
+use lists::Tables;
 use tiled_multiply::cores::multiply;
 
-// For all rows of column j, from its unit factor in `diag`.
-pub fn keep_column(
-    sizes: &[u32],
-    l_starts: &[u32],
-    l_rows: &[u32],
-    l_offsets: &[u32],
-    unit_starts: &[u32],
-    j: usize,
-    values: &[f64],
-    diag: &[f64],
-    cache: &mut [f64],
-)
-    requires j_in_bounds { (j < length sizes.now) × (j + 1 < length l_starts.now) × (j < length unit_starts.now) }
-    requires j_nonzero { (0 < at sizes.now j) × (at sizes.now j ≤ 16) × (at unit_starts.now j + at sizes.now j * at sizes.now j ≤ length diag.now) }
-    requires keep_fit { KeepFit sizes.now l_rows.now l_offsets.now j (at l_starts.now j) (at l_starts.now (j + 1)) (length values.now) }
-    ensures { Keeps sizes.now l_rows.now l_offsets.now j (at l_starts.now j) (at l_starts.now (j + 1)) values.now (slot (at unit_starts.now j) (at sizes.now j * at sizes.now j) diag.now) cache.old cache.new }
+// For all rows of column j, from L's values and its unit factor in `diag`: Q(i) goes to the cache, at the place that L(i, j) has in `l_values`, as
+// far as the cache is long enough.
+pub fn keep_column(t: &Tables, j: usize, l_values: &[f64], diag: &[f64], cache: &mut [f64])
+    requires j_in_bounds { (j < length t.now.sizes.now) × (j + 1 < length t.now.l_starts.now) × (j < length t.now.unit_starts.now) }
+    requires j_nonzero { (0 < at t.now.sizes.now j) × (at t.now.sizes.now j ≤ 16) × (at t.now.unit_starts.now j + at t.now.sizes.now j * at t.now.sizes.now j ≤ length diag.now) }
+    requires keep_fit { KeepFit t.now.sizes.now t.now.l_rows.now t.now.l_offsets.now j (at t.now.l_starts.now j) (at t.now.l_starts.now (j + 1)) (length l_values.now) }
+    ensures { Keeps t.now.sizes.now t.now.l_rows.now t.now.l_offsets.now j (at t.now.l_starts.now j) (at t.now.l_starts.now (j + 1)) l_values.now (slot (at t.now.unit_starts.now j) (at t.now.sizes.now j * at t.now.sizes.now j) diag.now) cache.old cache.new }
 {
-    let from = l_starts[j] as usize;
-    let end = l_starts[j + 1] as usize;
-    let side = sizes[j] as usize;
-    let unit = unit_starts[j] as usize;
-    let last = unit + side * side;
-    keep_rows(
-        sizes,
-        l_rows,
-        l_offsets,
-        j,
-        from,
-        end,
-        values,
-        &diag[unit..last],
-        cache,
-    );
-}
-
-// For the rows of column k, at places `from` to `end` of the tables: Q(i) goes to the cache, at the place that L(i, k) has in `values`, as far
-// as the cache is long enough.
-fn keep_rows(
-    sizes: &[u32],
-    l_rows: &[u32],
-    l_offsets: &[u32],
-    k: usize,
-    from: usize,
-    end: usize,
-    values: &[f64],
-    unit: &[f64],
-    cache: &mut [f64],
-)
-    requires keep_fit { KeepFit sizes.now l_rows.now l_offsets.now k from end (length values.now) }
-    requires k_in_bounds { (k < length sizes.now) × (0 < at sizes.now k) × (length unit.now ≡ at sizes.now k * at sizes.now k) }
-    ensures { Keeps sizes.now l_rows.now l_offsets.now k from end values.now unit.now cache.old cache.new }
-{
-    let w = sizes[k] as usize;
+    let from = t.l_starts[j] as usize;
+    let end = t.l_starts[j + 1] as usize;
+    let w = t.sizes[j] as usize;
+    let first = t.unit_starts[j] as usize;
+    let last = first + w * w;
+    let unit = &diag[first..last];
     for u in from..end {
-        let i = l_rows[u] as usize;
-        let h = sizes[i] as usize;
-        let o = l_offsets[u] as usize;
-        keep_row(h, w, o, values, unit, cache);
+        let i = t.l_rows[u] as usize;
+        let h = t.sizes[i] as usize;
+        let o = t.l_offsets[u] as usize;
+        keep_row(h, w, o, l_values, unit, cache);
     }
 }
 

@@ -1,4 +1,6 @@
 // The solve where the lengths are known to be right.
+// Kept: how long a slice is, as a fact beside the sizes. Each core is called in one place or two, with sizes and slices as the source has them; a struct that
+// holds a size and its slice would be built anew at each of them, for the one fact that it spares.
 ghost use Rattle.std.specs.Prelude.{◌≡◌, ◌*◌, length};
 ghost use Rattle.kernel_diag_right.specs.DiagRight.{diag_right_matsolve};
 

@@ -1,8 +1,10 @@
 // The substitutions where the lengths are known to be right.
+// Kept: how long a slice is, as a fact beside the sizes. Each core is called in one place or two, with sizes and slices as the source has them; a struct that
+// holds a size and its slice would be built anew at each of them, for the one fact that it spares.
 ghost use Rattle.std.specs.Prelude.{◌≡◌, ◌*◌, length};
 ghost use Rattle.kernel_lower_transpose.specs.Transpose.{lower_transpose_solve, lower_transpose_matsolve};
 
-use scalar::cores::entry;
+use scalar::cores::{each_column, entry};
 
 // y := L⁻ᵀ y, the rows from the last to the first. Each loop counts up from 0, and works out its index.
 pub fn lower_transpose_solve_core(n: usize, l: &[f64], y: &mut [f64])
@@ -22,15 +24,10 @@ pub fn lower_transpose_solve_core(n: usize, l: &[f64], y: &mut [f64])
 }
 
 // Y := L⁻ᵀ Y, column by column.
-// Kept: a loop over columns; with the step as a closure its meaning would have to be a parameter too, and no line would go.
 pub fn lower_transpose_matsolve_core(n: usize, nrhs: usize, l: &[f64], y: &mut [f64])
     requires l_len { length l.now ≡ n * n }
     requires y_len { length y.old ≡ n * nrhs }
     ensures { y.new ≡ lower_transpose_matsolve n nrhs l.now y.old }
 {
-    for c in 0..nrhs {
-        let from = c * n;
-        let end = from + n;
-        lower_transpose_solve_core(n, l, &mut y[from..end]);
-    }
+    each_column(n, nrhs, y, |x| lower_transpose_solve_core(n, l, x));
 }

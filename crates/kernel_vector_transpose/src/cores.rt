@@ -1,18 +1,17 @@
 // The product where the lengths are known to be right.
+// Kept: how long a slice is, as a fact beside the sizes. Each core is called in one place or two, with sizes and slices as the source has them; a struct that
+// holds a size and its slice would be built anew at each of them, for the one fact that it spares.
 ghost use Rattle.std.specs.Prelude.{◌≡◌, ◌*◌, ◌<◌, length};
 ghost use Rattle.kernel_vector_transpose.specs.VectorTranspose.{column_sum, sub_mat_transpose_plus_vec};
 
-use scalar::cores::entry;
+use scalar::cores::{each_less, entry};
 
 // x := x - Aᵀ z
-// Kept: a loop over columns; with the step as a closure its meaning would have to be a parameter too, and no line would go.
 pub fn sub_mat_transpose_plus_vec_core(m: usize, n: usize, x: &mut [f64], a: &[f64], z: &[f64])
     requires { (length x.old ≡ n) × (length a.now ≡ m * n) × (length z.now ≡ m) }
     ensures { x.new ≡ sub_mat_transpose_plus_vec m n x.old a.now z.now }
 {
-    for c in 0..n {
-        x[c] = x[c] - column_sum(m, n, a, z, c);
-    }
+    each_less(x, |c| column_sum(m, n, a, z, c));
 }
 
 // The sum of column c's products with z.

@@ -8,6 +8,7 @@ use Rattle.scalars.specs.Scalars.{scalar_starts, scalar_count}
 use Rattle.scalars.specs.Bodies.{offsets}
 use Rattle.block_product.specs.Working.{slot}
 use Rattle.column_products.specs.Columns.{Plan, plan}
+use Rattle.lists.specs.declared.Tables as declared
 
 -- ---- the tables
 
@@ -21,6 +22,10 @@ pub record Tables : Type 0 where
 
 abbrev pub tables : (sizes l_starts l_rows l_offsets : List ℕ) → Tables
 tables sizes l_starts l_rows l_offsets = record { sizes = sizes; l_starts = l_starts; l_rows = l_rows; l_offsets = l_offsets }
+
+-- the same of the struct
+abbrev pub laid : declared.Tables → Tables
+laid t = tables t.sizes.now t.l_starts.now t.l_rows.now t.l_offsets.now
 
 -- with the offsets that follow from the others
 abbrev pub tables_of : (sizes l_starts l_rows : List ℕ) → Tables

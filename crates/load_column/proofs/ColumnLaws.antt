@@ -1,5 +1,5 @@
 -- The loop over a column's rows. `UpTo` is its invariant: the diagonal block and the rows before place u of L's row table have their places
--- and are loaded. `up_none` where it begins, `up_more` a turn, `up_placed` and `up_blocks` where it ends. Assumes nothing.
+-- and are loaded. `up_more` a turn, `up_placed` and `up_blocks` where it ends. Assumes nothing.
 use Rattle.std.specs.Prelude.{◌≡◌, ℕ, zero, suc, ◌+◌, ◌-◌, ◌*◌, ◌<◌, ◌≤◌, T, List, [], ◌∷◌, length, set}
 use mathlib.Core.Logic.{inl, ⊎_elim}
 use mathlib.Core.Path.{sym, ap, subst, ◌∙◌}
@@ -79,18 +79,6 @@ module _ (t : Tables) (j : ℕ) where
         omega arith
 
     module _ (block : ℕ → List Float) (long : (i : ℕ) → i < n → length (block i) ≡ side t i * side t j) (places : List ℕ) (c : List Float) (all : length places ≡ n) (room : length c ≡ m) where
-      begun : UpTo block (set places j 0) (within 0 (side t j * side t j) (λ _. block j) c) (start_of t j)
-      begun =
-          record {
-            own = get_or-set_same places j 0 0 (omega arith);
-            own_block = slot-written 0 (side t j * side t j) (λ _. block j) c (omega (arith, laid.packed j h)) (long j h);
-            row = λ v a b. absurd (omega arith);
-            row_block = λ v a b. absurd (omega arith);
-          }
-
-      pub up_none : (places' : List ℕ) (c' : List Float) → (places' ≡ set places j 0) × (c' ≡ within 0 (side t j * side t j) (λ _. block j) c) → UpTo block places' c' (start_of t j)
-      up_none places' c' e = rw (e.0, e.1) begun
-
       module _ (u : ℕ) (lo : start_of t j ≤ u) (hi : u < stop_of t j) (up : UpTo block places c u) where
         f : RowFits n m u
         f = row_fits u lo hi

@@ -1,4 +1,5 @@
 // One column of the permuted matrix is loaded into the working column, where the tables are known to be good.
+// Kept: that a body has as many numbers as its sizes say, and that a place in the working column fits a u32, is about a slice that is lent beside them.
 ghost use Rattle.std.specs.Prelude.{◌≡◌, ℕ, ◌+◌, ◌*◌, ◌<◌, ◌≤◌, not, map, length, ◌==◌, nat_lt, slice_set};
 ghost use Rattle.std.specs.Float.{binary64};
 ghost use Rattle.std.specs.Float.Ieee.{add};
@@ -8,142 +9,87 @@ ghost use Rattle.tables.specs.Search.{first, fault};
 ghost use Rattle.tables.specs.Verdict.{at};
 ghost use Rattle.scalars.specs.Bodies.{transposed, landed};
 ghost use Rattle.machine.specs.System.{System};
-ghost use Rattle.layout.specs.Layout.{tables, RowsLaid};
+ghost use Rattle.layout.specs.Layout.{laid, RowsLaid};
 ghost use Rattle.load_column.specs.Load.{Source, Fed, LoadedColumn};
 ghost use Rattle.load_column.specs.Blocks.{ColumnRises, Kept, stored_block, block_at};
 
+use lists::{Matrix, Tables};
 use scalar::clear;
 use scalar::cores::entry;
 use tables::cores::wide;
 
 // Column j: its diagonal block first, then its rows as they lie in L's values. places[i] becomes where block (i, j) begins in c.
-//     dims, starts, rows, values   A, by old number; bodies: where each of its bodies begins in `values`
-//     order, sizes                 the old number and the dimension of each new block
-//     l_starts, l_rows, l_offsets  the columns of L, by new number, and where each of its bodies begins in L's values
-pub fn load_column(
-    dims: &[u32],
-    starts: &[u32],
-    rows: &[u32],
-    values: &[f64],
-    bodies: &[u32],
-    order: &[u32],
-    sizes: &[u32],
-    l_starts: &[u32],
-    l_rows: &[u32],
-    l_offsets: &[u32],
-    j: usize,
-    places: &mut [u32],
-    c: &mut [f64],
-)
-    requires source { Source dims.now starts.now rows.now values.now bodies.now order.now sizes.now }
-    requires rows_laid { RowsLaid (tables sizes.now l_starts.now l_rows.now l_offsets.now) (length dims.now) (at l_offsets.now (length l_rows.now)) (length c.old) }
-    requires j_in_bounds { (j < length dims.now) × (length places.old ≡ length dims.now) × (length c.old < 4294967296) }
-    ensures { (a : System) → Fed a dims.now starts.now rows.now values.now order.now → LoadedColumn (tables sizes.now l_starts.now l_rows.now l_offsets.now) a j places.new c.new }
+pub fn load_column(a: &Matrix, t: &Tables, j: usize, places: &mut [u32], c: &mut [f64])
+    requires source { Source a.now.dims.now a.now.starts.now a.now.rows.now a.now.values.now a.now.bodies.now a.now.order.now t.now.sizes.now }
+    requires rows_laid { RowsLaid (laid t.now) (length a.now.dims.now) (at t.now.l_offsets.now (length t.now.l_rows.now)) (length c.old) }
+    requires j_in_bounds { (j < length a.now.dims.now) × (length places.old ≡ length a.now.dims.now) × (length c.old < 4294967296) }
+    ensures { (s : System) → Fed s a.now.dims.now a.now.starts.now a.now.rows.now a.now.values.now a.now.order.now → LoadedColumn (laid t.now) s j places.new c.new }
 {
-    let wj = sizes[j] as usize;
+    let wj = t.sizes[j] as usize;
     let own = wj * wj;
-    let from = l_starts[j] as usize;
-    let end = l_starts[j + 1] as usize;
-    let base = l_offsets[from] as usize;
-    load_at(
-        dims, starts, rows, values, bodies, order, sizes, j, j, 0, places, c,
-    );
+    let from = t.l_starts[j] as usize;
+    let end = t.l_starts[j + 1] as usize;
+    let base = t.l_offsets[from] as usize;
+    load_at(a, t, j, j, 0, places, c);
     for u in from..end {
-        let place = own + (l_offsets[u] as usize - base);
-        let i = l_rows[u] as usize;
-        load_at(
-            dims, starts, rows, values, bodies, order, sizes, i, j, place, places, c,
-        );
+        let place = own + (t.l_offsets[u] as usize - base);
+        let i = t.l_rows[u] as usize;
+        load_at(a, t, i, j, place, places, c);
     }
 }
 
 // Block (i, j) is loaded into c from `place` on, and places[i] becomes `place`.
 fn load_at(
-    dims: &[u32],
-    starts: &[u32],
-    rows: &[u32],
-    values: &[f64],
-    bodies: &[u32],
-    order: &[u32],
-    sizes: &[u32],
+    a: &Matrix,
+    t: &Tables,
     i: usize,
     j: usize,
     place: usize,
     places: &mut [u32],
     c: &mut [f64],
 )
-    requires source { Source dims.now starts.now rows.now values.now bodies.now order.now sizes.now }
-    requires i_in_bounds { (i < length dims.now) × (j < length dims.now) × (length places.old ≡ length dims.now) }
-    requires j_in_bounds { (place + at sizes.now i * at sizes.now j ≤ length c.old) × (length c.old < 4294967296) × (place < 4294967296) }
+    requires source { Source a.now.dims.now a.now.starts.now a.now.rows.now a.now.values.now a.now.bodies.now a.now.order.now t.now.sizes.now }
+    requires i_in_bounds { (i < length a.now.dims.now) × (j < length a.now.dims.now) × (length places.old ≡ length a.now.dims.now) }
+    requires j_in_bounds { (place + at t.now.sizes.now i * at t.now.sizes.now j ≤ length c.old) × (length c.old < 4294967296) × (place < 4294967296) }
     ensures places_after { places.new ≡ slice_set places.old i place }
-    ensures c_after { c.new ≡ within place (at sizes.now i * at sizes.now j) (λ _. block_at dims.now starts.now rows.now values.now order.now i j) c.old }
+    ensures c_after { c.new ≡ within place (at t.now.sizes.now i * at t.now.sizes.now j) (λ _. block_at a.now.dims.now a.now.starts.now a.now.rows.now a.now.values.now a.now.order.now i j) c.old }
 {
     places[i] = place as u32;
-    let end = place + sizes[i] as usize * sizes[j] as usize;
-    load_block(
-        dims,
-        starts,
-        rows,
-        values,
-        bodies,
-        order,
-        i,
-        j,
-        &mut c[place..end],
-    );
+    let end = place + t.sizes[i] as usize * t.sizes[j] as usize;
+    load_block(a, i, j, &mut c[place..end]);
 }
 
 // Block (i, j): of its two old numbers the greater is A's row, the lesser A's column.
-fn load_block(
-    dims: &[u32],
-    starts: &[u32],
-    rows: &[u32],
-    values: &[f64],
-    bodies: &[u32],
-    order: &[u32],
-    i: usize,
-    j: usize,
-    y: &mut [f64],
-)
-    requires kept { Kept dims.now starts.now rows.now values.now bodies.now }
-    requires i_in_bounds { (i < length order.now) × (j < length order.now) × (at order.now i < length dims.now) × (at order.now j < length dims.now) }
-    requires y_len { length y.old ≡ at dims.now (at order.now i) * at dims.now (at order.now j) }
-    ensures { y.new ≡ block_at dims.now starts.now rows.now values.now order.now i j }
+fn load_block(a: &Matrix, i: usize, j: usize, y: &mut [f64])
+    requires kept { Kept a.now.dims.now a.now.starts.now a.now.rows.now a.now.values.now a.now.bodies.now }
+    requires i_in_bounds { (i < length a.now.order.now) × (j < length a.now.order.now) × (at a.now.order.now i < length a.now.dims.now) × (at a.now.order.now j < length a.now.dims.now) }
+    requires y_len { length y.old ≡ at a.now.dims.now (at a.now.order.now i) * at a.now.dims.now (at a.now.order.now j) }
+    ensures { y.new ≡ block_at a.now.dims.now a.now.starts.now a.now.rows.now a.now.values.now a.now.order.now i j }
 {
-    let oi = order[i] as usize;
-    let oj = order[j] as usize;
+    let oi = a.order[i] as usize;
+    let oj = a.order[j] as usize;
     if oi < oj {
-        load_stored(dims, starts, rows, values, bodies, oj, oi, true, y);
+        load_stored(a, oj, oi, true, y);
     } else {
-        load_stored(dims, starts, rows, values, bodies, oi, oj, false, y);
+        load_stored(a, oi, oj, false, y);
     }
 }
 
 // A's block (row, column), transposed where it lands above the diagonal; zeros where A stores none.
-fn load_stored(
-    dims: &[u32],
-    starts: &[u32],
-    rows: &[u32],
-    values: &[f64],
-    bodies: &[u32],
-    row: usize,
-    column: usize,
-    above: bool,
-    y: &mut [f64],
-)
-    requires kept { Kept dims.now starts.now rows.now values.now bodies.now }
-    requires row_in_bounds { (row < length dims.now) × (column < length dims.now) × (length y.old ≡ at dims.now row * at dims.now column) }
-    ensures { y.new ≡ stored_block dims.now starts.now rows.now values.now above row column }
+fn load_stored(a: &Matrix, row: usize, column: usize, above: bool, y: &mut [f64])
+    requires kept { Kept a.now.dims.now a.now.starts.now a.now.rows.now a.now.values.now a.now.bodies.now }
+    requires row_in_bounds { (row < length a.now.dims.now) × (column < length a.now.dims.now) × (length y.old ≡ at a.now.dims.now row * at a.now.dims.now column) }
+    ensures { y.new ≡ stored_block a.now.dims.now a.now.starts.now a.now.rows.now a.now.values.now above row column }
 {
-    match find_row(starts, rows, row, column) {
+    match find_row(a.starts, a.rows, row, column) {
         Some(p) => {
-            let b = bodies[p] as usize;
-            let e = bodies[p + 1] as usize;
+            let b = a.bodies[p] as usize;
+            let e = a.bodies[p + 1] as usize;
             load_body(
-                dims[row] as usize,
-                dims[column] as usize,
+                a.dims[row] as usize,
+                a.dims[column] as usize,
                 above,
-                &values[b..e],
+                &a.values[b..e],
                 y,
             );
         }

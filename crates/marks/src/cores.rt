@@ -1,4 +1,6 @@
 // The marks of a night's scalars, where the dimensions and the order are known to be good.
+// Kept: that dimensions are sizes, that they are few, and that an order permutes them stand by themselves: calls of other crates ask for only one of
+// the three, so a record of all would ask them for more.
 ghost use Rattle.std.specs.Prelude.{◌≡◌, ◌+◌, ◌≤◌, length};
 ghost use Rattle.graph.specs.Order.{Permutes};
 ghost use Rattle.tables.specs.Sound.{Sizes};

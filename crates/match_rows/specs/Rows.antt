@@ -4,8 +4,17 @@ use Rattle.graph.specs.Sets.{elem, keep, gather}
 use Rattle.graph.specs.Links.{rows_in, linked_in}
 use Rattle.graph.specs.Symbolic as symbolic
 use Rattle.tables.specs.Search.{first}
-use Rattle.tables.specs.Verdict.{at}
+use Rattle.graph.specs.Order.{Permutes}
+use Rattle.tables.specs.Verdict.{at, from_diagonal, past_diagonal}
+use Rattle.tables.specs.Sound.{Columns}
 use Rattle.elimination_tree.specs.Tree.{code}
+
+-- what is held side by side: A's columns under an order of elimination of 4096 blocks at most, and a factor's, by new number
+pub record Compared (starts rows order l_starts l_rows : List ℕ) : Type 0 where
+  pub few : length order ≤ 4096
+  pub columns : Columns from_diagonal (length order) starts rows
+  pub permutes : Permutes (length order) order
+  pub l_columns : Columns past_diagonal (length order) l_starts l_rows
 
 -- is k the first row of a column?
 abbrev pub heads : List ℕ → ℕ → Bool

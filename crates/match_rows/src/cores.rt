@@ -5,6 +5,7 @@
 //   first_stray      the lowest column that lists a row which is neither
 //   first_off        the lowest column whose parent is not its first row
 // Before the lowest of the four all columns are right.
+// Kept: what the passes compare is one record, `Compared`, and that a column ascends is another, `ColumnRises`. `linked` and `lowest_unlinked` ask for less.
 ghost use Rattle.std.specs.Prelude.{◌≡◌, ℕ, ◌+◌, ◌<◌, ◌≤◌, ◌||◌, length, replicate, ◌==◌, nat_lt, slice_get};
 ghost use Rattle.graph.specs.Sets.{elem, gather};
 ghost use Rattle.graph.specs.Links.{rows_in, linked_in};
@@ -14,11 +15,28 @@ ghost use Rattle.tables.specs.Verdict.{at, from_diagonal, past_diagonal};
 ghost use Rattle.tables.specs.Sound.{Columns};
 ghost use Rattle.order.specs.Order.{Inverse};
 ghost use Rattle.load_column.specs.Blocks.{ColumnRises};
-ghost use Rattle.match_rows.specs.Rows.{children, passed_on, lowered, lowered_by, given_in, headed, LowestOf, stamps, column_given, Families};
+ghost use Rattle.match_rows.specs.Rows.{Compared, children, passed_on, lowered, lowered_by, given_in, headed, LowestOf, stamps, column_given, Families};
 
 use load_column::cores::{find_row, lower_bound};
 use order::cores::invert;
 use tables::cores::{NONE, first_fault, wide};
+
+// A's links, under an order of elimination.
+#[derive(Clone, Copy, Drop)]
+pub struct Links<'a> {
+    // A's pattern, by old number.
+    pub starts: &'a [u32],
+    pub rows: &'a [u32],
+    // The permutation after the late move.
+    pub order: &'a [u32],
+}
+
+// The children of each column in a list: the first of column k, and the next of each, each its number plus one; 0 ends a list.
+#[derive(Clone, Copy, Drop)]
+pub struct Family<'a> {
+    pub head: &'a [u32; 4096],
+    pub sibling: &'a [u32; 4096],
+}
 
 // ---- one row
 
@@ -45,20 +63,20 @@ pub fn holds(starts: &[u32], rows: &[u32], row: usize, column: usize) -> bool
 }
 
 // Does A link the new blocks i and k?
-pub fn linked(starts: &[u32], rows: &[u32], order: &[u32], i: usize, k: usize) -> bool
-    requires columns { Columns from_diagonal (length order.now) starts.now rows.now × Permutes (length order.now) order.now }
-    requires i_in_bounds { (i < length order.now) × (k < length order.now) }
-    ensures { result ≡ linked_in starts.now rows.now order.now i k }
+pub fn linked(links: &Links, i: usize, k: usize) -> bool
+    requires columns { Columns from_diagonal (length links.now.order.now) links.now.starts.now links.now.rows.now × Permutes (length links.now.order.now) links.now.order.now }
+    requires i_in_bounds { (i < length links.now.order.now) × (k < length links.now.order.now) }
+    ensures { result ≡ linked_in links.now.starts.now links.now.rows.now links.now.order.now i k }
 {
     if i == k {
         return false;
     }
-    let p = wide(order[i]);
-    let q = wide(order[k]);
+    let p = wide(links.order[i]);
+    let q = wide(links.order[k]);
     if p < q {
-        return holds(starts, rows, q, p);
+        return holds(links.starts, links.rows, q, p);
     }
-    holds(starts, rows, p, q)
+    holds(links.starts, links.rows, p, q)
 }
 
 // ---- a row is missing
@@ -102,60 +120,35 @@ pub fn lower_by(
 
 // The lowest column that lacks a linked row, if one does, under the inverse of the order: a pass over A's stored blocks.
 pub fn lowest_unlinked(
-    starts: &[u32],
-    rows: &[u32],
-    order: &[u32],
+    links: &Links,
     inverse: &[u32],
     l_starts: &[u32],
     l_rows: &[u32],
 ) -> Option<usize>
-    requires columns { Columns from_diagonal (length order.now) starts.now rows.now × Inverse (length order.now) order.now inverse.now }
-    requires columns_2 { Columns past_diagonal (length order.now) l_starts.now l_rows.now }
-    ensures { LowestOf (linked_in starts.now rows.now order.now) (rows_in l_starts.now l_rows.now) (length order.now) result }
+    requires columns { Columns from_diagonal (length links.now.order.now) links.now.starts.now links.now.rows.now × Inverse (length links.now.order.now) links.now.order.now inverse.now }
+    requires columns_2 { Columns past_diagonal (length links.now.order.now) l_starts.now l_rows.now }
+    ensures { LowestOf (linked_in links.now.starts.now links.now.rows.now links.now.order.now) (rows_in l_starts.now l_rows.now) (length links.now.order.now) result }
 {
-    let n = order.len();
+    let n = links.order.len();
     let mut least = n;
     for c in 0..n {
-        let end = wide(starts[c + 1]);
-        for u in wide(starts[c])..end {
-            least = lower_by(inverse, l_starts, l_rows, wide(rows[u]), c, least);
+        let end = wide(links.starts[c + 1]);
+        for u in wide(links.starts[c])..end {
+            least = lower_by(inverse, l_starts, l_rows, wide(links.rows[u]), c, least);
         }
     }
     (least < n).then_some(least)
 }
 
-// The same, the inverse made in the table lent.
-pub fn unlinked_with(
-    starts: &[u32],
-    rows: &[u32],
-    order: &[u32],
-    l_starts: &[u32],
-    l_rows: &[u32],
-    inverse: &mut [u32],
-) -> Option<usize>
-    requires order_len_bound { (length order.now ≤ 4096) × Columns from_diagonal (length order.now) starts.now rows.now × Permutes (length order.now) order.now }
-    requires columns { Columns past_diagonal (length order.now) l_starts.now l_rows.now × (length order.now ≤ length inverse.old) }
-    ensures { LowestOf (linked_in starts.now rows.now order.now) (rows_in l_starts.now l_rows.now) (length order.now) result }
-{
-    let n = order.len();
-    invert(order, &mut inverse[..n]);
-    lowest_unlinked(starts, rows, order, &inverse[..n], l_starts, l_rows)
-}
-
 // The lowest column that lacks a linked row, if one does.
-pub fn first_unlinked(
-    starts: &[u32],
-    rows: &[u32],
-    order: &[u32],
-    l_starts: &[u32],
-    l_rows: &[u32],
-) -> Option<usize>
-    requires order_len_bound { (length order.now ≤ 4096) × Columns from_diagonal (length order.now) starts.now rows.now × Permutes (length order.now) order.now }
-    requires columns { Columns past_diagonal (length order.now) l_starts.now l_rows.now }
-    ensures { LowestOf (linked_in starts.now rows.now order.now) (rows_in l_starts.now l_rows.now) (length order.now) result }
+pub fn first_unlinked(links: &Links, l_starts: &[u32], l_rows: &[u32]) -> Option<usize>
+    requires compared { Compared links.now.starts.now links.now.rows.now links.now.order.now l_starts.now l_rows.now }
+    ensures { LowestOf (linked_in links.now.starts.now links.now.rows.now links.now.order.now) (rows_in l_starts.now l_rows.now) (length links.now.order.now) result }
 {
     let mut inverse = [0u32; 4096];
-    unlinked_with(starts, rows, order, l_starts, l_rows, &mut inverse)
+    let n = links.order.len();
+    invert(links.order, &mut inverse[..n]);
+    lowest_unlinked(links, &inverse[..n], l_starts, l_rows)
 }
 
 // The first place of column c, behind its first, whose row column k does not list, if there is one. Both ascend: a walk of the two
@@ -250,114 +243,101 @@ pub fn stamp_children(
     l_starts: &[u32],
     l_rows: &[u32],
     n: usize,
-    head: &[u32; 4096],
-    sibling: &[u32; 4096],
+    family: &Family,
     k: usize,
     v: u32,
     seen: &mut [u32; 4096],
 )
     requires n_bound { (n ≤ 4096) × Columns past_diagonal n l_starts.now l_rows.now }
-    requires k_lt_n { (k < n) × Families (rows_in l_starts.now l_rows.now) n head.now sibling.now × (length seen.old ≡ 4096) }
+    requires k_lt_n { (k < n) × Families (rows_in l_starts.now l_rows.now) n family.now.head.now family.now.sibling.now × (length seen.old ≡ 4096) }
     ensures { seen.new ≡ stamps v (gather (rows_in l_starts.now l_rows.now) (children (rows_in l_starts.now l_rows.now) k n)) seen.old }
 {
-    let mut x = wide(head[k]);
+    let mut x = wide(family.head[k]);
     // Kept: a walk down a list of children, whose end is 0.
     while x > 0 {
         let c = x - 1;
         stamp_rows(l_starts, l_rows, c, v, seen);
-        x = wide(sibling[c]);
+        x = wide(family.sibling[c]);
     }
 }
 
 // The row at place u of column k is stamped or linked.
 pub fn row_given(
-    starts: &[u32],
-    rows: &[u32],
-    order: &[u32],
+    links: &Links,
     l_rows: &[u32],
     seen: &[u32; 4096],
     k: usize,
     v: u32,
     u: usize,
 ) -> bool
-    requires columns { Columns from_diagonal (length order.now) starts.now rows.now × Permutes (length order.now) order.now }
-    requires order_len_bound { (length order.now ≤ 4096) × (k < length order.now) × (u < length l_rows.now) × (at l_rows.now u < length order.now) × (length seen.now ≡ 4096) }
-    ensures { result ≡ (at seen.now (at l_rows.now u) == v || linked_in starts.now rows.now order.now (at l_rows.now u) k) }
+    requires columns { Columns from_diagonal (length links.now.order.now) links.now.starts.now links.now.rows.now × Permutes (length links.now.order.now) links.now.order.now }
+    requires order_len_bound { (length links.now.order.now ≤ 4096) × (k < length links.now.order.now) × (u < length l_rows.now) × (at l_rows.now u < length links.now.order.now) × (length seen.now ≡ 4096) }
+    ensures { result ≡ (at seen.now (at l_rows.now u) == v || linked_in links.now.starts.now links.now.rows.now links.now.order.now (at l_rows.now u) k) }
 {
     let i = wide(l_rows[u]);
     if seen[i] == v {
         return true;
     }
-    linked(starts, rows, order, i, k)
+    linked(links, i, k)
 }
 
 // The first place of column k whose row is neither stamped nor linked, if there is one.
 pub fn stray_in(
-    starts: &[u32],
-    rows: &[u32],
-    order: &[u32],
+    links: &Links,
     l_starts: &[u32],
     l_rows: &[u32],
     seen: &[u32; 4096],
     k: usize,
     v: u32,
 ) -> Option<usize>
-    requires order_len_bound { (length order.now ≤ 4096) × Columns from_diagonal (length order.now) starts.now rows.now × Permutes (length order.now) order.now }
-    requires k_in_bounds { (k < length order.now) × Columns past_diagonal (length order.now) l_starts.now l_rows.now × (length seen.now ≡ 4096) }
-    ensures { result ≡ fault (λ u. (at seen.now (at l_rows.now u) == v) || linked_in starts.now rows.now order.now (at l_rows.now u) k) (at l_starts.now k) (at l_starts.now (k + 1)) }
+    requires compared { Compared links.now.starts.now links.now.rows.now links.now.order.now l_starts.now l_rows.now }
+    requires k_in_bounds { (k < length links.now.order.now) × (length seen.now ≡ 4096) }
+    ensures { result ≡ fault (λ u. (at seen.now (at l_rows.now u) == v) || linked_in links.now.starts.now links.now.rows.now links.now.order.now (at l_rows.now u) k) (at l_starts.now k) (at l_starts.now (k + 1)) }
 {
     first_fault(
         wide(l_starts[k]),
         wide(l_starts[k + 1]),
         |u|
-            requires { Columns from_diagonal (length order.now) starts.now rows.now × Permutes (length order.now) order.now × (length order.now ≤ 4096) × (k < length order.now) × (u < length l_rows.now) × (at l_rows.now u < length order.now) × (length seen.now ≡ 4096) }
-        { row_given(starts, rows, order, l_rows, seen, k, v, u) },
+            requires { Columns from_diagonal (length links.now.order.now) links.now.starts.now links.now.rows.now × Permutes (length links.now.order.now) links.now.order.now × (length links.now.order.now ≤ 4096) × (k < length links.now.order.now) × (u < length l_rows.now) × (at l_rows.now u < length links.now.order.now) × (length seen.now ≡ 4096) }
+        { row_given(links, l_rows, seen, k, v, u) },
     )
 }
 
 // Is each row that column k lists linked, or a row of a child? `seen` holds the stamps of the columns before, each its number plus one.
 pub fn column_given(
-    starts: &[u32],
-    rows: &[u32],
-    order: &[u32],
+    links: &Links,
     l_starts: &[u32],
     l_rows: &[u32],
-    head: &[u32; 4096],
-    sibling: &[u32; 4096],
+    family: &Family,
     k: usize,
     seen: &mut [u32; 4096],
 ) -> bool
-    requires order_len_bound { (length order.now ≤ 4096) × Columns from_diagonal (length order.now) starts.now rows.now × Permutes (length order.now) order.now }
-    requires k_in_bounds { (k < length order.now) × Columns past_diagonal (length order.now) l_starts.now l_rows.now }
-    requires families { Families (rows_in l_starts.now l_rows.now) (length order.now) head.now sibling.now × (length seen.old ≡ 4096) × ((i : ℕ) → i < 4096 → at seen.old i ≤ k) }
-    ensures value { result ≡ column_given (given_in starts.now rows.now order.now l_starts.now l_rows.now) l_starts.now l_rows.now k }
+    requires compared { Compared links.now.starts.now links.now.rows.now links.now.order.now l_starts.now l_rows.now }
+    requires k_in_bounds { k < length links.now.order.now }
+    requires families { Families (rows_in l_starts.now l_rows.now) (length links.now.order.now) family.now.head.now family.now.sibling.now × (length seen.old ≡ 4096) × ((i : ℕ) → i < 4096 → at seen.old i ≤ k) }
+    ensures value { result ≡ column_given (given_in links.now.starts.now links.now.rows.now links.now.order.now l_starts.now l_rows.now) l_starts.now l_rows.now k }
     ensures seen_len { (length seen.new ≡ 4096) × ((i : ℕ) → i < 4096 → at seen.new i ≤ k + 1) }
 {
     let v = (k + 1) as u32;
-    stamp_children(l_starts, l_rows, order.len(), head, sibling, k, v, seen);
-    stray_in(starts, rows, order, l_starts, l_rows, seen, k, v).is_none()
+    stamp_children(l_starts, l_rows, links.order.len(), family, k, v, seen);
+    stray_in(links, l_starts, l_rows, seen, k, v).is_none()
 }
 
 // The lowest column that lists a row that it is not given, if one does.
-pub fn first_stray(
-    starts: &[u32],
-    rows: &[u32],
-    order: &[u32],
-    l_starts: &[u32],
-    l_rows: &[u32],
-) -> Option<usize>
-    requires order_len_bound { (length order.now ≤ 4096) × Columns from_diagonal (length order.now) starts.now rows.now × Permutes (length order.now) order.now }
-    requires columns { Columns past_diagonal (length order.now) l_starts.now l_rows.now }
-    ensures { result ≡ fault (column_given (given_in starts.now rows.now order.now l_starts.now l_rows.now) l_starts.now l_rows.now) 0 (length order.now) }
+pub fn first_stray(links: &Links, l_starts: &[u32], l_rows: &[u32]) -> Option<usize>
+    requires compared { Compared links.now.starts.now links.now.rows.now links.now.order.now l_starts.now l_rows.now }
+    ensures { result ≡ fault (column_given (given_in links.now.starts.now links.now.rows.now links.now.order.now l_starts.now l_rows.now) l_starts.now l_rows.now) 0 (length links.now.order.now) }
 {
     let mut head = [0u32; 4096];
     let mut sibling = [0u32; 4096];
     let mut seen = [0u32; 4096];
-    link_children(l_starts, l_rows, order.len(), &mut head, &mut sibling);
-    for k in 0..order.len() {
-        if !column_given(
-            starts, rows, order, l_starts, l_rows, &head, &sibling, k, &mut seen,
-        ) {
+    link_children(l_starts, l_rows, links.order.len(), &mut head, &mut sibling);
+    let family = Family {
+        head: &head,
+        sibling: &sibling,
+    };
+    for k in 0..links.order.len() {
+        if !column_given(links, l_starts, l_rows, &family, k, &mut seen) {
             return Some(k);
         }
     }

@@ -62,6 +62,7 @@ fn line(i: u64, x: f64, d: f64) {
 }
 
 // Sixteen upper-case hexadecimal digits.
+// Kept: they are those of `digits`, which an answer to a sheet is proved to have, and not those of a `Display`.
 fn print_bits(bits: u64) {
     let mut text = [0u8; 16];
     put_hex(&mut text, 0, bits);

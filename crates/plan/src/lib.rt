@@ -1,5 +1,7 @@
 // The plan of a night, from A's tables, the permutation and the late flags: what L has in all, where each of its columns begins, and
 // its rows. Numbers are not read: the plan of a night holds for every night of the same pattern.
+// Kept: that the night has passed, as a fact: `plan`, `plan_core` and `analysis` are one call cut in pieces, and a struct around the night would be opened in each.
+// Kept: what is asked of a single number, a place or a count, as a fact of the one call that has it.
 #![tactic(auto)]
 
 ghost use Rattle.std.specs.Prelude.{◌≡◌, ◌≤◌, OnOk};

@@ -25,7 +25,10 @@ use Rattle.graph.specs.Count.{triples}
 use Rattle.analysis.specs.Plan.{stored_of, products_in, starts_of, rows_of, Ready}
 use Rattle.analysis.specs.declared.cores.Analysis.{Analysis}
 use Rattle.analysis.proofs.Same.{same-columns, same-stored, same-starts, same-l-rows, tree_of}
-use Rattle.plan_core.specs.Plan.{told, Night, Places, blocks, links, whole, answer, Plans, Exact}
+use Rattle.scratch.specs.Scratch.{SameScratch, Cleared}
+use Rattle.scratch.specs.declared.Scratch.{Scratch}
+use Rattle.plan_core.specs.Plan.{told, Night, Places, places, lent_of, blocks, links, whole, answer, Plans, Exact}
+use Rattle.plan_core.specs.declared.Outputs.{Outputs}
 use Rattle.analysis.specs.declared.cores.Counts.{Counts}
 use Rattle.plan_core.specs.declared.PlanError.{PlanError}
 
@@ -107,6 +110,33 @@ pub record Zeros (a : Night) (b : Places) : Type 0 where
   pub stamps : b.stamps ≡ replicate (blocks a) 0
   pub table : b.table ≡ replicate (length a.rows) 0
   pub upper : b.upper ≡ replicate (length a.rows) 0
+
+-- all scratch is cleared that has exactly its needs, whatever was written into it before
+pub cleared_all : (a : Night) (o : Outputs) {w x y : Scratch} {order parents l_starts l_rows : List ℕ} → Exact a (lent_of o w) → SameScratch w x → Cleared x y
+    → Zeros a (places order parents l_starts l_rows y.inverse.now y.sizes.now y.count.now y.heads.now y.into.now y.stamps.now y.table.now y.upper.now)
+cleared_all a o e s z = record {
+  inverse = zero_of z.inverse (s.inverse.1 ∙ e.inverse);
+  sizes = zero_of z.sizes (s.sizes.1 ∙ e.sizes);
+  count = zero_of z.count (s.count.1 ∙ e.count);
+  heads = zero_of z.heads (s.heads.1 ∙ e.heads);
+  into = zero_of z.into (s.into.1 ∙ e.into);
+  stamps = zero_of z.stamps (s.stamps.1 ∙ e.stamps);
+  table = zero_of z.table (s.table.1 ∙ e.table);
+  upper = zero_of z.upper (s.upper.1 ∙ e.upper);
+}
+
+-- scratch that is the same twice is the same
+pub same_again : {w x y : Scratch} → SameScratch w x → SameScratch x y → SameScratch w y
+same_again s t = record {
+  inverse = (t.inverse.0 ∙ s.inverse.0, t.inverse.1 ∙ s.inverse.1);
+  sizes = (t.sizes.0 ∙ s.sizes.0, t.sizes.1 ∙ s.sizes.1);
+  count = (t.count.0 ∙ s.count.0, t.count.1 ∙ s.count.1);
+  heads = (t.heads.0 ∙ s.heads.0, t.heads.1 ∙ s.heads.1);
+  into = (t.into.0 ∙ s.into.0, t.into.1 ∙ s.into.1);
+  stamps = (t.stamps.0 ∙ s.stamps.0, t.stamps.1 ∙ s.stamps.1);
+  table = (t.table.0 ∙ s.table.0, t.table.1 ∙ s.table.1);
+  upper = (t.upper.0 ∙ s.upper.0, t.upper.1 ∙ s.upper.1);
+}
 
 module _ (a : Night) (b b' : Places) (r : Result Counts PlanError) (x : Exact a b) (z : Zeros a b') where
   -- L's row table is too short

@@ -15,9 +15,10 @@ use Rattle.order.specs.Order.{sizes_of}
 use Rattle.symbolic.specs.Columns.{numbers_of}
 use Rattle.analysis.specs.Plan.{stored_of, products_in, starts_of, rows_of}
 pub use Rattle.analysis.specs.declared.cores.Counts.{Counts}
-use Rattle.plan_core.specs.declared.Night as declared
+use Rattle.lists.specs.declared.Night as declared
 use Rattle.plan_core.specs.declared.Outputs.{Outputs}
-use Rattle.plan_core.specs.declared.Scratch.{Scratch}
+use Rattle.scratch.specs.declared.Scratch.{Scratch}
+pub use Rattle.scratch.specs.Scratch.{SameScratch}
 use Rattle.plan_core.specs.declared.PlanError.{PlanError}
 use Rattle.plan_core.specs.declared.PlanError.TheVariants.{Blocks, Dimension, Starts, Stored, Row, Order, Permutation, Late, Short}
 
@@ -87,22 +88,12 @@ abbrev pub lent_of : Outputs → Scratch → Places
 lent_of o w =
     places o.order.now o.parents.now o.l_starts.now o.l_rows.now w.inverse.now w.sizes.now w.count.now w.heads.now w.into.now w.stamps.now w.table.now w.upper.now
 
--- each output is still the one that was lent, and so is each buffer of scratch
+-- each output is still the one that was lent
 pub record SameOutputs (o p : Outputs) : Type 0 where
   pub order : p.order.ghost_name ≡ o.order.ghost_name
   pub parents : p.parents.ghost_name ≡ o.parents.ghost_name
   pub l_starts : p.l_starts.ghost_name ≡ o.l_starts.ghost_name
   pub l_rows : p.l_rows.ghost_name ≡ o.l_rows.ghost_name
-
-pub record SameScratch (w x : Scratch) : Type 0 where
-  pub inverse : x.inverse.ghost_name ≡ w.inverse.ghost_name
-  pub sizes : x.sizes.ghost_name ≡ w.sizes.ghost_name
-  pub count : x.count.ghost_name ≡ w.count.ghost_name
-  pub heads : x.heads.ghost_name ≡ w.heads.ghost_name
-  pub into : x.into.ghost_name ≡ w.into.ghost_name
-  pub stamps : x.stamps.ghost_name ≡ w.stamps.ghost_name
-  pub table : x.table.ghost_name ≡ w.table.ghost_name
-  pub upper : x.upper.ghost_name ≡ w.upper.ghost_name
 
 abbrev pub blocks : Night → ℕ
 blocks a = length a.dims

@@ -1,4 +1,5 @@
 // The plan where the tables have passed and each buffer but L's row table has exactly its need.
+// Kept: that the night has passed, as a fact: `plan`, `plan_core` and `analysis` are one call cut in pieces, and a struct around the night would be opened in each.
 ghost use Rattle.std.specs.Prelude.{◌≡◌, ◌+◌, length, replicate};
 ghost use Rattle.refusal.specs.Refusal.{done};
 ghost use Rattle.tables.specs.Sound.{PlanSound};
@@ -7,6 +8,7 @@ ghost use Rattle.plan_core.specs.Plan.{handed, lent_of, Plans, Exact, SameOutput
 use crate::{Night, Outputs, PlanError, Scratch};
 use analysis::cores::{Counts, analyze, store};
 use scratch::cores::clear_plan;
+use symbolic::UpperTree;
 
 // The tree and the counts in scratch, then the need of L's row table, then the outputs. Accepted, L's blocks below the diagonal, L's
 // numbers, and the block products that make it.
@@ -18,16 +20,11 @@ pub fn planned_core(a: &Night, o: &mut Outputs, w: &mut Scratch) -> Result<Count
     ensures scratch { SameScratch w.old w.new }
 {
     let n = a.dims.len();
-    let found = analyze(
-        a.dims, a.starts, a.rows, a.perm, a.late, w.inverse, w.sizes, w.count, w.heads, w.into,
-        w.stamps, w.table, w.upper,
-    );
+    let found = analyze(a, w);
     let counts = found.counts;
     let need = counts.stored;
     if o.l_rows.len() < need {
-        clear_plan(
-            w.inverse, w.sizes, w.count, w.heads, w.into, w.stamps, w.table, w.upper,
-        );
+        clear_plan(w);
         return Err(PlanError::Short { which: 3, need });
     }
     let order = &mut *o.order;
@@ -35,17 +32,19 @@ pub fn planned_core(a: &Night, o: &mut Outputs, w: &mut Scratch) -> Result<Count
     let l_starts = &mut *o.l_starts;
     let l_rows = &mut *o.l_rows;
     let inverse = &mut *w.inverse;
-    let sizes = &mut *w.sizes;
     let count = &mut *w.count;
     let heads = &mut *w.heads;
     let into = &mut *w.into;
     let stamps = &mut *w.stamps;
-    let table = &mut *w.table;
     let upper = &mut *w.upper;
+    let grown = UpperTree {
+        starts: &into[..],
+        rows: &upper[..],
+        parent: &heads[..n],
+    };
     store(
-        into,
-        &upper[..found.entries],
-        &heads[..n],
+        &grown,
+        found.entries,
         stamps,
         inverse,
         count,
@@ -54,6 +53,6 @@ pub fn planned_core(a: &Night, o: &mut Outputs, w: &mut Scratch) -> Result<Count
     );
     order::cores::move_late(a.perm, a.late, order);
     buckets::cores::copy(heads, parents);
-    clear_plan(inverse, sizes, count, heads, into, stamps, table, upper);
+    clear_plan(w);
     Ok(counts)
 }

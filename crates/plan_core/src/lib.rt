@@ -9,22 +9,10 @@ ghost use Rattle.needs.specs.Needs.{told_error as told_short};
 ghost use Rattle.plan_core.specs.Plan.{told_error};
 
 use checks::PlanTablesError;
+pub use lists::Night;
 use needs::ShortBuffer;
 use refusal::Refusal;
-
-// What a plan is handed.
-#[derive(Clone, Copy, Drop)]
-pub struct Night<'a> {
-    // The dimension of each block.
-    pub dims: &'a [u32],
-    // A's pattern from the diagonal down, column after column: where each column begins, and the row of each block.
-    pub starts: &'a [u32],
-    pub rows: &'a [u32],
-    // The old number of each new one.
-    pub perm: &'a [u32],
-    // A flag 0 or 1 for each block.
-    pub late: &'a [u32],
-}
+pub use scratch::Scratch;
 
 // The outputs of a plan.
 #[derive(Drop)]
@@ -33,19 +21,6 @@ pub struct Outputs<'a> {
     pub parents: &'a mut [u32],
     pub l_starts: &'a mut [u32],
     pub l_rows: &'a mut [u32],
-}
-
-// What a plan is lent to work in.
-#[derive(Drop)]
-pub struct Scratch<'a> {
-    pub inverse: &'a mut [u32],
-    pub sizes: &'a mut [u32],
-    pub count: &'a mut [u32],
-    pub heads: &'a mut [u32],
-    pub into: &'a mut [u32],
-    pub stamps: &'a mut [u32],
-    pub table: &'a mut [u32],
-    pub upper: &'a mut [u32],
 }
 
 // The refusals of `plan`.

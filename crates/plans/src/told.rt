@@ -11,9 +11,52 @@ const NOTHING: Counts = Counts {
     products: 0,
 };
 
+// A refusal with the two places that it carries, 0 where it has none.
+trait Carries {
+    fn carried(&self) -> (usize, usize);
+}
+
+// The place, or the buffer that is short and its need.
+impl Carries for PlanError {
+    fn carried(&self) -> (usize, usize) {
+        match self {
+            PlanError::Blocks | PlanError::Stored => (0, 0),
+            PlanError::Dimension { place }
+            | PlanError::Starts { place }
+            | PlanError::Row { place }
+            | PlanError::Order { place }
+            | PlanError::Permutation { place }
+            | PlanError::Late { place } => (*place, 0),
+            PlanError::Short { which, need } => (*which, *need),
+        }
+    }
+}
+
+// The place.
+impl Carries for SystemError {
+    fn carried(&self) -> (usize, usize) {
+        match self {
+            SystemError::Blocks
+            | SystemError::Stored
+            | SystemError::Values
+            | SystemError::Tolerance => (0, 0),
+            SystemError::Dimension { place }
+            | SystemError::Starts { place }
+            | SystemError::Row { place }
+            | SystemError::Order { place }
+            | SystemError::Permutation { place }
+            | SystemError::Late { place } => (*place, 0),
+        }
+    }
+}
+
 // Whether the words of a case have the answer's number, and the two places that it carries.
-fn says<T, E: Refusal>(h: &[u32; 26], answer: &Result<T, E>, carried: (usize, usize)) -> bool {
-    h[17] == number_of(answer) && h[18] as usize == carried.0 && h[19] as usize == carried.1
+fn says<T, E: Refusal + Carries>(h: &[u32; 26], answer: &Result<T, E>) -> bool {
+    let (first, second) = match answer {
+        Ok(_) => (0, 0),
+        Err(e) => e.carried(),
+    };
+    h[17] == number_of(answer) && h[18] as usize == first && h[19] as usize == second
 }
 
 // Whether they have L's blocks and numbers, and the products.
@@ -24,46 +67,9 @@ fn counted(h: &[u32; 26], counts: Counts) -> bool {
 }
 
 pub fn says_plan(h: &[u32; 26], answer: &Result<Counts, PlanError>) -> bool {
-    says(h, answer, of_plan(answer)) && counted(h, answer.unwrap_or(NOTHING))
+    says(h, answer) && counted(h, answer.unwrap_or(NOTHING))
 }
 
 pub fn says_system(h: &[u32; 26], answer: &Result<(), SystemError>) -> bool {
-    says(h, answer, of_system(answer)) && counted(h, NOTHING)
-}
-
-// The place, or the buffer that is short and its need.
-fn of_plan(answer: &Result<Counts, PlanError>) -> (usize, usize) {
-    match answer {
-        Ok(_) | Err(PlanError::Blocks | PlanError::Stored) => (0, 0),
-        Err(
-            PlanError::Dimension { place }
-            | PlanError::Starts { place }
-            | PlanError::Row { place }
-            | PlanError::Order { place }
-            | PlanError::Permutation { place }
-            | PlanError::Late { place },
-        ) => (*place, 0),
-        Err(PlanError::Short { which, need }) => (*which, *need),
-    }
-}
-
-// The place.
-fn of_system(answer: &Result<(), SystemError>) -> (usize, usize) {
-    match answer {
-        Ok(_)
-        | Err(
-            SystemError::Blocks
-            | SystemError::Stored
-            | SystemError::Values
-            | SystemError::Tolerance,
-        ) => (0, 0),
-        Err(
-            SystemError::Dimension { place }
-            | SystemError::Starts { place }
-            | SystemError::Row { place }
-            | SystemError::Order { place }
-            | SystemError::Permutation { place }
-            | SystemError::Late { place },
-        ) => (*place, 0),
-    }
+    says(h, answer) && counted(h, NOTHING)
 }

@@ -1,6 +1,8 @@
 // The walk of an elimination tree where the tables are known to be good: a u32 mark advanced by a wrapping add, stamps cleared
 // where it returns to 0 or a stamp already holds it, and a climb inside the column scan that is left by a labelled break at a
 // mark or a root. What is found is written from the end of the lent buffer backwards, so it is listed last found first.
+// Kept: what is asked of a table or of its length, as a fact of each call: tables of many kinds are lent here, and a struct for one would be built at each call and
+// taken apart at the next.
 ghost use Rattle.std.specs.Prelude.{◌≡◌, ℕ, ◌+◌, ◌-◌, ◌<◌, ◌≤◌, Bool, true, ◌++◌, length, take, replicate};
 ghost use Rattle.reach.specs.Reach.{none, Parents, any_is, mark_of, stamps_of, reached, reach_of};
 

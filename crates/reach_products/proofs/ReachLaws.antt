@@ -1,9 +1,9 @@
 -- All the products of column j: a loop over the columns that reach it.
 --     reach-none, reach-more, reach-all    where the loop begins, a turn, and where it ends
 --     next-there, next_more                the next place of a column not yet worked is as it was; one further
---     count-more, count_room               the count has room for the next column
+--     turn                                 what is known of the column of a turn
 -- Assumes nothing.
-use Rattle.std.specs.Prelude.{◌≡◌, ℕ, zero, suc, ◌+◌, ◌-◌, ◌<◌, ◌≤◌, T, eqb, List, [], ◌∷◌, ◌++◌, map, length, get_or, take, drop, set}
+use Rattle.std.specs.Prelude.{◌≡◌, ℕ, zero, suc, ◌+◌, ◌-◌, ◌^◌, ◌<◌, ◌≤◌, T, eqb, List, [], ◌∷◌, ◌++◌, map, length, get_or, take, drop, set}
 use mathlib.Core.List.{append-nil, append_assoc}
 use mathlib.Core.Logic.{⊎_elim}
 use mathlib.Core.Path.{refl, sym, ap, subst, ◌∙◌}
@@ -22,8 +22,8 @@ use Rattle.machine.specs.Machine.{State, Column, column_at, no_column, products}
 use Rattle.machine.proofs.StepLaws.{products-finished}
 use Rattle.block_product.specs.Working.{Shows}
 use Rattle.block_product.proofs.SlotLaws.{slot-length}
-use Rattle.column_products.specs.Columns.{Plan, size_of, place_of, Holds, Kept, PlacesFit, FactorsFit, ColumnProducts}
-use Rattle.reach_products.specs.Reach.{advanced, end_of, rows_from, reach_triples, ReachSteps}
+use Rattle.column_products.specs.Columns.{Plan, size_of, place_of, Holds, Kept, PlacesFit, ColumnProducts}
+use Rattle.reach_products.specs.Reach.{advanced, end_of, rows_from, reach_triples, ReachFit, ReachSteps}
 use Rattle.row_products.proofs.RowLaws.{products-append}
 
 -- ---- the next places
@@ -56,24 +56,15 @@ once-before (x ∷ l) (suc t) u h m =
     ⊎_elim (λ e. u.0 (subst (λ (y : ℕ). T (elem y l)) e (elem_at l t (le_of_suc-le-suc h)))) (once-before l t u.1 (le_of_suc-le-suc h))
     (elem-cases (at l t) x (take t l) m)
 
-pub next-there : (reach next : List ℕ) (t : ℕ) → Uniq reach → t < length reach → at (advanced (take t reach) next) (at reach t) ≡ at next (at reach t)
+next-there : (reach next : List ℕ) (t : ℕ) → Uniq reach → t < length reach → at (advanced (take t reach) next) (at reach t) ≡ at next (at reach t)
 next-there reach next t u h = advanced-other (take t reach) next (at reach t) (once-before reach t u h)
 
-pub next_more : (reach next : List ℕ) (t : ℕ) → Uniq reach → t < length reach
+next_more : (reach next : List ℕ) (t : ℕ) → Uniq reach → t < length reach
     → set (advanced (take t reach) next) (at reach t) (at next (at reach t) + 1) ≡ advanced (take (t + 1) reach) next
 next_more reach next t u h =
     sym
     (rw (add-one, take-suc reach t 0 h, advanced-last (take t reach) next (at reach t))
     (ap (λ (m : ℕ). set (advanced (take t reach) next) (at reach t) (m + 1)) (next-there reach next t u h)))
-
--- ---- what a column needs, with lengths and places as they are in the loop
-
-module _ (p : Plan) where
-  pub places-now : (j k f f' e v q q' c c' : ℕ) → f' ≡ f → q' ≡ q → c' ≡ c → PlacesFit p j k f e v q c → PlacesFit p j k f' e v q' c'
-  places-now j k f f' e v q q' c c' ef eq ec h = rw (ef, eq, ec) h
-
-  pub factors-now : (j k a b q q' : ℕ) → q' ≡ q → FactorsFit p j k a b q → FactorsFit p j k a b q'
-  factors-now j k a b q q' eq h = rw eq h
 
 -- ---- the loop
 
@@ -90,18 +81,18 @@ module _ (p : Plan) (l_starts : List ℕ) (j : ℕ) (reach next : List ℕ) wher
       ∙ gather_append (λ k. map (triple j k) (rows_from p l_starts next k)) (take t reach) (at reach t ∷ [])
       ∙ ap (λ (l : List Triple). reach_triples p l_starts next j (take t reach) ++ l) (append-nil (map (triple j (at reach t)) (rows_from p l_starts next (at reach t))))
 
-  pub count-more : (t : ℕ) → t < length reach
+  count-more : (t : ℕ) → t < length reach
       → length (reach_triples p l_starts next j (take (t + 1) reach)) ≡ length (reach_triples p l_starts next j (take t reach)) + length (rows_from p l_starts next (at reach t))
   count-more t h =
       ap length (triples-more t h) ∙ length-append (reach_triples p l_starts next j (take t reach)) (map (triple j (at reach t)) (rows_from p l_starts next (at reach t)))
       ∙ ap (λ (m : ℕ). length (reach_triples p l_starts next j (take t reach)) + m) (length-map (rows_from p l_starts next (at reach t)) (triple j (at reach t)))
 
   -- a column's rows are as many as its places
-  pub rows-many : (k v q c : ℕ) → at next k ≤ end_of l_starts k → PlacesFit p j k (at next k) (end_of l_starts k) v q c → length (rows_from p l_starts next k) ≡ end_of l_starts k - at next k
+  rows-many : (k v q c : ℕ) → at next k ≤ end_of l_starts k → PlacesFit p j k (at next k) (end_of l_starts k) v q c → length (rows_from p l_starts next k) ≡ end_of l_starts k - at next k
   rows-many k v q c le fits = slot-length p.l_rows (at next k) (end_of l_starts k - at next k) (omega (arith, fits.in_tables))
 
   -- the products by some of the columns are at most those by all
-  pub count_room : (t : ℕ) → length (reach_triples p l_starts next j (take t reach)) ≤ length (reach_triples p l_starts next j reach)
+  count_room : (t : ℕ) → length (reach_triples p l_starts next j (take t reach)) ≤ length (reach_triples p l_starts next j reach)
   count_room t =
       omega (
         arith,
@@ -109,6 +100,35 @@ module _ (p : Plan) (l_starts : List ℕ) (j : ℕ) (reach next : List ℕ) wher
         ap length (gather_append (λ k. map (triple j k) (rows_from p l_starts next k)) (take t reach) (drop t reach)),
         length-append (reach_triples p l_starts next j (take t reach)) (reach_triples p l_starts next j (drop t reach)),
       )
+
+  -- what is known of the column of turn u, where the next places are next' and the count is n
+  pub record Turn (u : ℕ) (next' : List ℕ) (n count : ℕ) : Type 0 where
+    -- its next place has not moved, and is row j's
+    pub there : at next' (at reach u) ≡ at next (at reach u)
+    pub from : (at next' (at reach u) < end_of l_starts (at reach u)) × (at p.l_rows (at next' (at reach u)) ≡ j)
+    -- the count has room for its products, and comes to those of one column more
+    pub room : n + (end_of l_starts (at reach u) - at next' (at reach u)) < 2 ^ 64
+    pub counts : n + (end_of l_starts (at reach u) - at next' (at reach u)) ≡ count + length (reach_triples p l_starts next j (take (u + 1) reach))
+    pub moves : set next' (at reach u) (at next' (at reach u) + 1) ≡ advanced (take (u + 1) reach) next
+
+  pub turn : (values diag d qj qi c u n count : ℕ) (next' : List ℕ) → ReachFit p l_starts j reach next values diag d qj qi c → u < length reach
+      → next' ≡ advanced (take u reach) next → n ≡ count + length (reach_triples p l_starts next j (take u reach))
+      → count + length (reach_triples p l_starts next j reach) < 2 ^ 64 → Turn u next' n count
+  turn values diag d qj qi c u n count next' fits h moved counted bound =
+      let k = at reach u in
+      let column = fits.column u h in
+      let there : at next' k ≡ at next k = rw moved (next-there reach next u fits.once h) in
+      let many = rows-many k values qi c (omega (arith, column)) (fits.places u h) in
+      let more = count-more u h in
+      let most = count_room (u + 1) in
+      let counts : n + (end_of l_starts k - at next' k) ≡ count + length (reach_triples p l_starts next j (take (u + 1) reach)) = omega arith in
+      record {
+        there = there;
+        from = (omega (arith, column), ap (at p.l_rows) there ∙ column.3);
+        room = omega arith;
+        counts = counts;
+        moves = ap (λ (f : ℕ). set next' k (f + 1)) there ∙ ap (λ (m : List ℕ). set m k (at next k + 1)) moved ∙ next_more reach next u fits.once h;
+      }
 
   module _ (values diag d cache c₀ : List Float) (count₀ : ℕ) where
     -- the first t columns are done

@@ -1,4 +1,6 @@
 // Scalars under a permutation that is known to be good: perm[new] = old.
+// Kept: what the checks have found of A's dimensions, of an order or of the factor's columns, as facts. A struct of lists that have passed would be built after each
+// check and opened again here, where one list of it is read.
 ghost use Rattle.std.specs.Prelude.{◌≡◌, ◌<◌, length};
 ghost use Rattle.graph.specs.Order.{Permutes};
 ghost use Rattle.solution.specs.Solution.{permuted, unpermuted};

@@ -4,69 +4,79 @@ ghost use Rattle.std.specs.Prelude.{◌≡◌, ◌+◌, ◌*◌, ◌^◌, ◌<�
 ghost use Rattle.tables.specs.Verdict.{at};
 ghost use Rattle.row_products.specs.Rows.{RowsFit, RowProduct, RowProducts};
 
-use block_product::cores::block_product;
+use block_product::cores::{Pair, block_product};
 use tiled_multiply::cores::multiply;
 
-// For each row i of `rows`, in their order; row i of column k, L(i, k), stands in `values` at its offset, and qj is Q(j) d. Q(i) is taken
-// from the cache, where it stands as L(i, k) does in `values`, or worked out in qi where the cache has no place for it.
+// A pair of columns, with what column k is made of. Q of a row stands in the cache as the row's body does in `values`, as far as the cache is
+// long enough.
+#[derive(Clone, Copy, Drop)]
+pub struct Held<'a> {
+    pub pair: Pair<'a>,
+    pub values: &'a [f64],
+    pub cache: &'a [f64],
+    // The unit factor.
+    pub unit: &'a [f64],
+}
+
+// Some rows of column k, in their order.
+#[derive(Clone, Copy, Drop)]
+pub struct Rows<'a> {
+    pub rows: &'a [u32],
+    // Where the body of each begins in L's values.
+    pub offsets: &'a [u32],
+}
+
+// One of them.
+#[derive(Clone, Copy, Drop)]
+struct Row {
+    i: usize,
+    // Where its body begins in L's values, and its block in the working column.
+    o: usize,
+    place: usize,
+}
+
+// For each of these rows, whose block begins at places[i]; qj is Q(j) d. Q(i) is taken from the cache, or worked out in qi where the cache has
+// no place for it.
 pub fn apply_rows(
-    sizes: &[u32],
+    held: &Held,
+    r: &Rows,
     places: &[u32],
-    rows: &[u32],
-    offsets: &[u32],
-    j: usize,
-    k: usize,
-    values: &[f64],
-    cache: &[f64],
-    unit: &[f64],
     qj: &[f64],
     qi: &mut [f64],
     c: &mut [f64],
     count: u64,
 ) -> u64
-    requires rows_fit { RowsFit sizes.now places.now rows.now offsets.now j k (length values.now) (length qi.old) (length c.old) }
-    requires j_in_bounds { (j < length sizes.now) × (k < length sizes.now) × (0 < at sizes.now k) × (count + length rows.now < 2 ^ 64) }
-    requires unit_len { (length unit.now ≡ at sizes.now k * at sizes.now k) × (length qj.now ≡ at sizes.now j * at sizes.now k) }
-    ensures { RowProducts (at sizes.now) (at places.now) j k rows.now offsets.now values.now cache.now unit.now qj.now c.old count c.new result }
+    requires rows_fit { RowsFit held.now.pair.sizes.now places.now r.now.rows.now r.now.offsets.now held.now.pair.j held.now.pair.k (length held.now.values.now) (length qi.old) (length c.old) }
+    requires j_in_bounds { (held.now.pair.j < length held.now.pair.sizes.now) × (held.now.pair.k < length held.now.pair.sizes.now) × (0 < at held.now.pair.sizes.now held.now.pair.k) × (count + length r.now.rows.now < 2 ^ 64) }
+    requires unit_len { (length held.now.unit.now ≡ at held.now.pair.sizes.now held.now.pair.k * at held.now.pair.sizes.now held.now.pair.k) × (length qj.now ≡ at held.now.pair.sizes.now held.now.pair.j * at held.now.pair.sizes.now held.now.pair.k) }
+    ensures { RowProducts (at held.now.pair.sizes.now) (at places.now) held.now.pair.j held.now.pair.k r.now.rows.now r.now.offsets.now held.now.values.now held.now.cache.now held.now.unit.now qj.now c.old count c.new result }
 {
     let mut n = count;
-    for t in 0..rows.len() {
-        let i = rows[t] as usize;
-        let o = offsets[t] as usize;
+    for t in 0..r.rows.len() {
+        let i = r.rows[t] as usize;
+        let o = r.offsets[t] as usize;
         let place = places[i] as usize;
-        n = apply_row(sizes, i, j, k, o, values, cache, unit, qj, qi, c, place, n);
+        n = apply_row(held, &Row { i, o, place }, qj, qi, c, n);
     }
     n
 }
 
-// For row i alone, whose body begins at o.
-fn apply_row(
-    sizes: &[u32],
-    i: usize,
-    j: usize,
-    k: usize,
-    o: usize,
-    values: &[f64],
-    cache: &[f64],
-    unit: &[f64],
-    qj: &[f64],
-    qi: &mut [f64],
-    c: &mut [f64],
-    place: usize,
-    count: u64,
-) -> u64
-    requires i_in_bounds { (i < length sizes.now) × (j < length sizes.now) × (k < length sizes.now) × (0 < at sizes.now k) × (count + 1 < 2 ^ 64) }
-    requires k_in_bounds { (o + at sizes.now i * at sizes.now k ≤ length values.now) × (at sizes.now i * at sizes.now k ≤ length qi.old) × (place + at sizes.now i * at sizes.now j ≤ length c.old) }
-    requires unit_len { (length unit.now ≡ at sizes.now k * at sizes.now k) × (length qj.now ≡ at sizes.now j * at sizes.now k) }
-    ensures { RowProduct (at sizes.now) i j k o place values.now cache.now unit.now qj.now c.old count c.new result }
+// For one row.
+fn apply_row(held: &Held, r: &Row, qj: &[f64], qi: &mut [f64], c: &mut [f64], count: u64) -> u64
+    requires i_in_bounds { (r.now.i < length held.now.pair.sizes.now) × (held.now.pair.j < length held.now.pair.sizes.now) × (held.now.pair.k < length held.now.pair.sizes.now) × (0 < at held.now.pair.sizes.now held.now.pair.k) × (count + 1 < 2 ^ 64) }
+    requires k_in_bounds { (r.now.o + at held.now.pair.sizes.now r.now.i * at held.now.pair.sizes.now held.now.pair.k ≤ length held.now.values.now) × (at held.now.pair.sizes.now r.now.i * at held.now.pair.sizes.now held.now.pair.k ≤ length qi.old) × (r.now.place + at held.now.pair.sizes.now r.now.i * at held.now.pair.sizes.now held.now.pair.j ≤ length c.old) }
+    requires unit_len { (length held.now.unit.now ≡ at held.now.pair.sizes.now held.now.pair.k * at held.now.pair.sizes.now held.now.pair.k) × (length qj.now ≡ at held.now.pair.sizes.now held.now.pair.j * at held.now.pair.sizes.now held.now.pair.k) }
+    ensures { RowProduct (at held.now.pair.sizes.now) r.now.i held.now.pair.j held.now.pair.k r.now.o r.now.place held.now.values.now held.now.cache.now held.now.unit.now qj.now c.old count c.new result }
 {
-    let h = sizes[i] as usize;
-    let w = sizes[k] as usize;
+    let p = &held.pair;
+    let sizes = p.sizes;
+    let h = sizes[r.i] as usize;
+    let w = sizes[p.k] as usize;
     let room = h * w;
-    let end = o + room;
-    if end <= cache.len() {
-        return block_product(sizes, i, j, k, &cache[o..end], qj, c, place, count);
+    let end = r.o + room;
+    if end <= held.cache.len() {
+        return block_product(p, r.i, qj, &held.cache[r.o..end], c, r.place, count);
     }
-    multiply(h, w, w, &values[o..end], unit, &mut qi[..room]);
-    block_product(sizes, i, j, k, &qi[..room], qj, c, place, count)
+    multiply(h, w, w, &held.values[r.o..end], held.unit, &mut qi[..room]);
+    block_product(p, r.i, qj, &qi[..room], c, r.place, count)
 }

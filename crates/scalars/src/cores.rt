@@ -1,5 +1,7 @@
 // Scalars and bodies under the order of elimination, where the tables are known to be good. A's values stay where they are: a
 // body is copied, or transposed where it lands above the diagonal, when its column is loaded.
+// Kept: what is asked of a table or of its length, as a fact of each call: tables of many kinds are lent here, and a struct for one would be built at each call and
+// taken apart at the next.
 ghost use Rattle.std.specs.Prelude.{◌≡◌, ℕ, ◌+◌, ◌*◌, ◌<◌, ◌≤◌, Bool, length, slice_index};
 ghost use Rattle.graph.specs.Order.{Permutes};
 ghost use Rattle.tables.specs.Sound.{Sizes, Measured};

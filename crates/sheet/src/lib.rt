@@ -10,6 +10,7 @@ ghost use Rattle.sheet.specs.Reads.{Reads};
 use sheet_bytes::cores::u32_at;
 pub use sheet_check::cores::{Night, SheetError};
 use sheet_check::cores::{ROOM_BLOCKS, ROOM_SCALARS, ROOM_STORED, ROOM_VALUES};
+use sheet_unpack::Tables;
 use sheet_unpack::cores::{check_tables, keep};
 use tables::cores::wide;
 
@@ -51,6 +52,15 @@ pub fn read(
     ensures fits { IfOk result (λ night. (night.blocks ≤ room_blocks) × (night.stored ≤ room_stored) × (night.values ≤ room_values) × (night.scalars ≤ room_scalars)) }
 {
     let night = check(bytes)?;
-    keep(bytes, night, dims, late, perm, starts, rows, values, right);
+    let mut o = Tables {
+        dims,
+        late,
+        perm,
+        starts,
+        rows,
+        values,
+        right,
+    };
+    keep(bytes, night, &mut o);
     Ok(night)
 }

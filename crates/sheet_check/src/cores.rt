@@ -1,4 +1,5 @@
 // The checks of a sheet's tables once they are unpacked, in the order of the program `fit`.
+// Kept: what the head of a sheet has shown, as a fact of each part of its check, which stand one beside the other.
 ghost use Rattle.std.specs.Prelude.{◌≡◌, ◌+◌, length};
 ghost use Rattle.sheet_check.specs.Checks.{Laid, Stored};
 ghost use Rattle.sheet_check.specs.Outcome.{told, told_error};

@@ -7,6 +7,7 @@ use Rattle.sheet_check.specs.Checks.{room_blocks, room_stored, table_checks, tol
 use Rattle.sheet_check.specs.Sheet.{width, rows_of, columns_of, offsets_of, starts_of, value_count, scalars_of, values_of, right_side_of}
 use Rattle.sheet_check.specs.Sound.{SheetSound}
 use Rattle.sheet_check.specs.declared.cores.Night.{Night}
+use Rattle.sheet_unpack.specs.declared.Tables.{Tables}
 
 -- the head has been read, there is room for n blocks and m stored ones, and no table is cut
 pub record Headed (s : List ℕ) (n m : ℕ) : Type 0 where
@@ -24,13 +25,15 @@ pub record Kept (s : List ℕ) (night : Night) : Type 0 where
   pub values : night.values ≡ value_count s
   pub scalars : night.scalars ≡ scalars_of s
 
--- the tables of blocks and of stored blocks, in the first n and m places of what is lent
-pub record Parts (s : List ℕ) (n m : ℕ) (dims late perm rows columns dims' late' perm' rows' columns' : List ℕ) : Type 0 where
-  pub in_dims : dims' ≡ dims_of s ++ drop n dims
-  pub in_late : late' ≡ late_of s ++ drop n late
-  pub in_perm : perm' ≡ perm_of s ++ drop n perm
-  pub in_rows : rows' ≡ rows_of s ++ drop m rows
-  pub in_columns : columns' ≡ columns_of s ++ drop m columns
+-- each table is still the one that was lent
+pub record SameTables (o p : Tables) : Type 0 where
+  pub dims : p.dims.ghost_name ≡ o.dims.ghost_name
+  pub late : p.late.ghost_name ≡ o.late.ghost_name
+  pub perm : p.perm.ghost_name ≡ o.perm.ghost_name
+  pub starts : p.starts.ghost_name ≡ o.starts.ghost_name
+  pub rows : p.rows.ghost_name ≡ o.rows.ghost_name
+  pub values : p.values.ghost_name ≡ o.values.ghost_name
+  pub right : p.right.ghost_name ≡ o.right.ghost_name
 
 -- what is told of the tables, once the head has passed
 abbrev pub tables_told : List ℕ → Told

@@ -6,6 +6,8 @@ use Rattle.refusal.specs.Refusal.{Told, done, told_by, too_many_blocks, bad_dime
 use Rattle.needs.specs.Needs.{Lent, lent_from, need_checks}
 use Rattle.order.specs.Order.{sizes_of}
 use Rattle.scalars.specs.Scalars.{scalar_count}
+use Rattle.lists.specs.declared.Factor.{Factor}
+use Rattle.lists.specs.declared.Night.{Night}
 use Rattle.machine.specs.Machine.{Column}
 use Rattle.layout.specs.Layout.{tables}
 use Rattle.solution.specs.Solution.{solution}
@@ -13,6 +15,7 @@ use Rattle.solution.specs.Flat.{column_in, HoldsColumns}
 use Rattle.solve_checks.specs.Verdict.{bad_factor, solve_verdict}
 use Rattle.solve_match.specs.Verdict.{bad_column, match_verdict}
 use Rattle.solve_match.specs.Fresh.{Fresh}
+use Rattle.solve.specs.declared.Lent as declared
 use Rattle.solve.specs.declared.SolveError.{SolveError}
 use Rattle.solve.specs.declared.SolveError.TheVariants as variant
 
@@ -97,6 +100,20 @@ call dims starts rows perm late order parents l_starts l_rows l_offsets l_values
   sizes = sizes;
   scalar_starts = scalar_starts;
 }
+
+-- the same of the structs of a call
+abbrev pub called : Night → Factor → declared.Lent → Call
+called n f l =
+    call n.dims.now n.starts.now n.rows.now n.perm.now n.late.now f.order.now f.parents.now f.l_starts.now f.l_rows.now f.l_offsets.now f.l_values.now f.diag.now f.d.now
+    l.x.now l.y.now l.scalar_perm.now l.sizes.now l.scalar_starts.now
+
+-- each place is still the one that was lent
+pub record SameLent (l m : declared.Lent) : Type 0 where
+  pub x : m.x.ghost_name ≡ l.x.ghost_name
+  pub y : m.y.ghost_name ≡ l.y.ghost_name
+  pub scalar_perm : m.scalar_perm.ghost_name ≡ l.scalar_perm.ghost_name
+  pub sizes : m.sizes.ghost_name ≡ l.sizes.ghost_name
+  pub scalar_starts : m.scalar_starts.ghost_name ≡ l.scalar_starts.ghost_name
 
 module _ (a : Call) where
   -- the verdict on the call

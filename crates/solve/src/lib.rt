@@ -2,16 +2,16 @@
 // then anything is written.
 #![tactic(auto)]
 
-ghost use Rattle.std.specs.Prelude.{◌≡◌, length};
+ghost use Rattle.std.specs.Prelude.{◌≡◌};
 ghost use Rattle.needs.specs.Needs.{told_error as told_short};
 ghost use Rattle.solve_checks.specs.Outcome.{told_solve_error};
 ghost use Rattle.solve_match.specs.Outcome.{told_match_error};
-ghost use Rattle.solve.specs.Solve.{told, told_error, call_verdict, call, Solves};
+ghost use Rattle.solve.specs.Solve.{told, told_error, verdict_of, called, Solves, SameLent};
 
 use factor_tables::cores::scalars;
+pub use lists::{Factor, Night};
 use needs::{ShortBuffer, first_short};
 use refusal::Refusal;
-pub use solve_checks::{Factor, System};
 use solve_checks::{SolveTablesError, check_solve};
 use solve_core::cores::solve_lent;
 use solve_match::MatchError;
@@ -156,22 +156,16 @@ pub struct Lent<'a> {
 // What is left:
 // - Accepted: x is the solution, scratch is zeros in its needed part and beyond it as it was.
 // - Refused: all is as it was.
-pub fn solve_inplace(system: &System, factor: &Factor, lent: &mut Lent) -> Result<(), SolveError>
-    ensures solves { Solves (call system.now.dims.now system.now.starts.now system.now.rows.now system.now.perm.now system.now.late.now factor.now.order.now factor.now.parents.now factor.now.l_starts.now factor.now.l_rows.now factor.now.l_offsets.now factor.now.l_values.now factor.now.diag.now factor.now.d.now lent.old.x.now lent.old.y.now lent.old.scalar_perm.now lent.old.sizes.now lent.old.scalar_starts.now) result lent.new.x.now lent.new.y.now lent.new.scalar_perm.now lent.new.sizes.now lent.new.scalar_starts.now }
-    ensures same { (lent.new.x.ghost_name ≡ lent.old.x.ghost_name) × (lent.new.y.ghost_name ≡ lent.old.y.ghost_name) × (lent.new.scalar_perm.ghost_name ≡ lent.old.scalar_perm.ghost_name) × (lent.new.sizes.ghost_name ≡ lent.old.sizes.ghost_name) × (lent.new.scalar_starts.ghost_name ≡ lent.old.scalar_starts.ghost_name) }
+pub fn solve_inplace(night: &Night, factor: &Factor, lent: &mut Lent) -> Result<(), SolveError>
+    ensures solves { Solves (called night.now factor.now lent.old) result lent.new.x.now lent.new.y.now lent.new.scalar_perm.now lent.new.sizes.now lent.new.scalar_starts.now }
+    ensures same { SameLent lent.old lent.new }
 {
-    let checked = check_call(system, factor, lent);
+    let checked = check_call(night, factor, lent);
     let passes = checked.is_ok();
     if passes {
         solve_lent(
-            system.dims,
-            factor.order,
-            factor.l_starts,
-            factor.l_rows,
-            factor.l_offsets,
-            factor.l_values,
-            factor.diag,
-            factor.d,
+            night.dims,
+            factor,
             lent.x,
             lent.y,
             lent.scalar_perm,
@@ -184,12 +178,12 @@ pub fn solve_inplace(system: &System, factor: &Factor, lent: &mut Lent) -> Resul
 
 // The checks of the call by number: 1 to 9, 11, 12. Nothing that is lent is read.
 #[tactic(auto, using(crate::proofs::CallLaws::call_laws))]
-fn check_call(system: &System, factor: &Factor, lent: &Lent) -> Result<(), SolveError>
-    ensures { told result ≡ call_verdict system.now.dims.now system.now.starts.now system.now.rows.now system.now.perm.now system.now.late.now factor.now.order.now factor.now.parents.now factor.now.l_starts.now factor.now.l_rows.now factor.now.l_offsets.now factor.now.l_values.now (length factor.now.diag.now) (length factor.now.d.now) (length lent.now.x.now) (length lent.now.y.now) (length lent.now.scalar_perm.now) (length lent.now.sizes.now) (length lent.now.scalar_starts.now) }
+fn check_call(night: &Night, factor: &Factor, lent: &Lent) -> Result<(), SolveError>
+    ensures { told result ≡ verdict_of (called night.now factor.now lent.now) }
 {
-    check_solve(system, factor)?;
-    let n = system.dims.len();
-    let all = scalars(system.dims);
+    check_solve(night, factor)?;
+    let n = night.dims.len();
+    let all = scalars(night.dims);
     let x = lent.x.len();
     first_short(
         &[
@@ -201,6 +195,6 @@ fn check_call(system: &System, factor: &Factor, lent: &Lent) -> Result<(), Solve
         ],
         &[0, all, all, n, n + 1],
     )?;
-    first_mismatch(system, factor, x)?;
+    first_mismatch(night, factor, x)?;
     Ok(())
 }

@@ -13,7 +13,7 @@ ghost use Rattle.solve_abi.specs.Number.{ExportsSolve, ExportsMarks};
 use marks::{MarksError, Tally};
 use refusal::number_of;
 use report::carry;
-use solve::{Factor, Lent, SolveError, System, solve_inplace};
+use solve::{Factor, Lent, Night, SolveError, solve_inplace};
 
 // The solve: `solve::solve_inplace`, which names each slice. Accepted, `told` has zeros; refused, the place, and 2 where it is in the
 // factor's starts or rows, 1 where it is in its parents, or the buffer and its need, or of a wrong column the table, the column and what is
@@ -42,7 +42,7 @@ pub extern "C" fn beyqaloosh_solve_inplace(
 ) -> u32
     ensures { ExportsSolve (call dims.now starts.now rows.now perm.now late.now order.now parents.now l_starts.now l_rows.now l_offsets.now l_values.now diag.now d.now x.old y.old scalar_perm.old sizes.old scalar_starts.old) result told.new x.new y.new scalar_perm.new sizes.new scalar_starts.new }
 {
-    let system = System {
+    let night = Night {
         dims,
         starts,
         rows,
@@ -66,7 +66,7 @@ pub extern "C" fn beyqaloosh_solve_inplace(
         sizes,
         scalar_starts,
     };
-    let s = solve_inplace(&system, &factor, &mut lent);
+    let s = solve_inplace(&night, &factor, &mut lent);
     tell_solved(s, told)
 }
 

@@ -1,14 +1,13 @@
 -- What each check of a factor's table says where its test fails, and where it holds, and what one that passes says; and what parents that
 -- pass say at every place. Assumes nothing.
-use Rattle.std.specs.Prelude.{◌≡◌, ℕ, ◌+◌, ◌<◌, ◌≤◌, Bool, true, false, cond, ◌&&◌, ◌||◌, eqb, ltb, ◌⊎◌, List, length, Some, None}
+use Rattle.std.specs.Prelude.{◌≡◌, ℕ, ◌+◌, ◌<◌, Bool, true, false, ◌&&◌, ◌||◌, eqb, ltb, ◌⊎◌, List, length, Some, None}
 use Prim.Native.Nat.{zero-le}
 use mathlib.Core.Logic.{inl, inr}
-use mathlib.Core.Path.{refl, sym, ◌∙◌}
-use native.Mathlib.Omega.{arith}
-use borrow.Author.Tests.{lt-ltb, le-ltb, ltb-true, ltb-false, eqb-true}
-use Rattle.refusal.specs.Refusal.{Told, done, bad_parent, refuses}
+use mathlib.Core.Path.{refl}
+use borrow.Author.Tests.{ltb-true, eqb-true}
+use Rattle.refusal.specs.Refusal.{done, bad_parent, refuses}
 use Rattle.tables.specs.Search.{fault}
-use Rattle.tables.specs.Verdict.{at, fault_in, start_ok, row_fits, order_fits, past_diagonal}
+use Rattle.tables.specs.Verdict.{at, start_ok, row_fits, order_fits, past_diagonal}
 use Rattle.tables.proofs.Bools.{and_left, and_right}
 use Rattle.tables.proofs.FaultLaws.{fault-clear}
 use Rattle.tables.proofs.CheckLaws.{fault-stop, fault-go, fault-pass}

@@ -2,10 +2,10 @@
 use Rattle.std.specs.Prelude.{◌≡◌, ℕ, ◌+◌, ◌<◌, ◌≤◌, List, length, drop, Some, None}
 use mathlib.Core.Path.{refl, ◌∙◌}
 use lib.Ieee.{Float}
-use Rattle.graph.specs.Order.{moved, Permutes}
+use Rattle.graph.specs.Order.{moved}
 use Rattle.refusal.specs.Refusal.{Told, done, verdict, too_many_blocks, bad_dimension, bad_starts, too_many_stored, out_of_range, bad_parent, not_increasing, bad_value_count, bad_permutation, bad_late_flags}
 use Rattle.tables.specs.Search.{fault}
-use Rattle.tables.specs.Sound.{Sizes, Columns}
+use Rattle.tables.specs.Sound.{Columns}
 use Rattle.tables.specs.Verdict.{dim_ok, start_ok, row_fits, order_fits, perm_ok, late_ok, areas, from_diagonal, past_diagonal}
 use Rattle.tables.proofs.CheckLaws.{stops, goes, blocks-stop, blocks-go, dims-stop, dims-go, starts-stop, starts-go, stored-stop, stored-go, rows-stop, rows-go, order-stop, order-go, values-stop, values-go, perm-stop, perm-go, late-stop, late-go}
 use Rattle.tables.proofs.TableLaws.{sizes-of, ordered_of, columns_of, permutes-of, flags_of}

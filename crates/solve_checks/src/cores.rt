@@ -1,5 +1,6 @@
 // The search over a factor's parents. They are read by the system's blocks, not by their own count: that this count is another is 12, which
 // comes later.
+// Kept: what is asked of a single number, a place or a count, as a fact of the one call that has it.
 ghost use Rattle.std.specs.Prelude.{◌≡◌, ℕ, ◌<◌, length};
 ghost use Rattle.tables.specs.Search.{fault};
 ghost use Rattle.solve_checks.specs.Verdict.{parent_fits};

@@ -6,6 +6,7 @@
 
 pub mod cores;
 
+// Kept: what is asked of a single number, a place or a count, as a fact of the one call that has it.
 ghost use Rattle.std.specs.Prelude.{◌≡◌};
 ghost use Rattle.solve_checks.specs.Verdict.{solve_verdict};
 ghost use Rattle.solve_checks.specs.Outcome.{told_solve, told_solve_error};
@@ -14,42 +15,9 @@ use crate::cores::first_parent_of;
 use checks::{MAX_BLOCKS, MAX_STORED};
 use columns::cores::{Least, first_fall, first_row};
 use factor_order::cores::area_under;
+use lists::{Factor, Night};
 use refusal::Refusal;
 use tables::cores::{first_dim, first_late, first_perm, first_start};
-
-// A system as a solve is called with it: as it was handed to `factorize`, without its values and tolerance.
-#[derive(Clone, Copy, Drop)]
-pub struct System<'a> {
-    // The dimension of each block.
-    pub dims: &'a [u32],
-    // A's tables from the diagonal down.
-    pub starts: &'a [u32],
-    pub rows: &'a [u32],
-    // The old number of each new block.
-    pub perm: &'a [u32],
-    // A flag 0 or 1 for each block.
-    pub late: &'a [u32],
-}
-
-// A factor, each list exactly the first places that `factorize` filled. Its tables go by new number.
-#[derive(Clone, Copy, Drop)]
-pub struct Factor<'a> {
-    // The permutation after the late move: n blocks.
-    pub order: &'a [u32],
-    // The elimination tree: n.
-    pub parents: &'a [u32],
-    // The rows of L: n + 1 starts.
-    pub l_starts: &'a [u32],
-    pub l_rows: &'a [u32],
-    // Where the body of each of them begins, and L's numbers last.
-    pub l_offsets: &'a [u32],
-    // Those bodies.
-    pub l_values: &'a [f64],
-    // The unit factors of the diagonal blocks: the sum of the dimensions' squares.
-    pub diag: &'a [f64],
-    // Their pivots: the scalars.
-    pub d: &'a [f64],
-}
 
 // The refusals of a check of the tables of a solve.
 #[derive(Clone, Copy, Debug, PartialEq, Eq)]
@@ -107,18 +75,18 @@ impl Refusal for SolveTablesError {
 // A's tables, the permutation, the late flags, and the tables of a factor: the parents of its blocks, whatever their count, and its
 // starts and rows, whose column j stores rows past j.
 #[tactic(auto, using(crate::proofs::SolveLaws::solve_laws))]
-pub fn check_solve(system: &System, factor: &Factor) -> Result<(), SolveTablesError>
-    ensures { told_solve result ≡ solve_verdict system.now.dims.now system.now.starts.now system.now.rows.now system.now.perm.now system.now.late.now factor.now.parents.now factor.now.l_starts.now factor.now.l_rows.now factor.now.l_values.now }
+pub fn check_solve(night: &Night, factor: &Factor) -> Result<(), SolveTablesError>
+    ensures { told_solve result ≡ solve_verdict night.now.dims.now night.now.starts.now night.now.rows.now night.now.perm.now night.now.late.now factor.now.parents.now factor.now.l_starts.now factor.now.l_rows.now factor.now.l_values.now }
 {
-    let n = system.dims.len();
+    let n = night.dims.len();
     if n > MAX_BLOCKS {
         return Err(SolveTablesError::Blocks);
     }
-    if let Some(place) = first_dim(system.dims) {
+    if let Some(place) = first_dim(night.dims) {
         return Err(SolveTablesError::Dimension { place });
     }
-    let m = system.rows.len();
-    if let Some(place) = first_start(system.starts, n, m) {
+    let m = night.rows.len();
+    if let Some(place) = first_start(night.starts, n, m) {
         return Err(SolveTablesError::Starts { place });
     }
     if let Some(place) = first_start(factor.l_starts, n, factor.l_rows.len()) {
@@ -127,7 +95,7 @@ pub fn check_solve(system: &System, factor: &Factor) -> Result<(), SolveTablesEr
     if m > MAX_STORED {
         return Err(SolveTablesError::Stored);
     }
-    if let Some(place) = first_row(system.starts, system.rows, n, Least::Diagonal) {
+    if let Some(place) = first_row(night.starts, night.rows, n, Least::Diagonal) {
         return Err(SolveTablesError::Row { place });
     }
     if let Some(place) = first_row(factor.l_starts, factor.l_rows, n, Least::PastDiagonal) {
@@ -136,22 +104,22 @@ pub fn check_solve(system: &System, factor: &Factor) -> Result<(), SolveTablesEr
     if let Some(block) = first_parent_of(factor.parents, n) {
         return Err(SolveTablesError::Parent { block });
     }
-    if let Some(place) = first_fall(system.starts, system.rows, n) {
+    if let Some(place) = first_fall(night.starts, night.rows, n) {
         return Err(SolveTablesError::Order { place });
     }
     if let Some(place) = first_fall(factor.l_starts, factor.l_rows, n) {
         return Err(SolveTablesError::LOrder { place });
     }
-    if let Some(place) = first_perm(system.perm, n) {
+    if let Some(place) = first_perm(night.perm, n) {
         return Err(SolveTablesError::Permutation { place });
     }
-    if let Some(place) = first_late(system.late, n) {
+    if let Some(place) = first_late(night.late, n) {
         return Err(SolveTablesError::Late { place });
     }
     let need = area_under(
-        system.dims,
-        system.perm,
-        system.late,
+        night.dims,
+        night.perm,
+        night.late,
         factor.l_starts,
         factor.l_rows,
     );

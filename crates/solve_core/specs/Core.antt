@@ -9,6 +9,7 @@ use Rattle.order.specs.Order.{sizes_of}
 use Rattle.scalars.specs.Scalars.{scalar_count}
 use Rattle.scalars.specs.Bodies.{offsets}
 use Rattle.machine.specs.Machine.{Column}
+use Rattle.lists.specs.declared.Factor.{Factor}
 use Rattle.layout.specs.Layout.{Tables, tables, side, units_need}
 use Rattle.solution.specs.Solution.{Vector, solved, solution}
 use Rattle.solution.specs.Flat.{HoldsColumns, ShowsVector}
@@ -25,6 +26,10 @@ pub record Solvable (dims order l_starts l_rows l_offsets : List ℕ) (l_values 
   pub units : diag ≡ units_need dims
   pub pivots : d ≡ scalar_count dims
 
+-- the same of the struct
+abbrev pub FactorFits : (dims : List ℕ) → Factor → Type 0
+FactorFits dims f = Solvable dims f.order.now f.l_starts.now f.l_rows.now f.l_offsets.now (length f.l_values.now) (length f.diag.now) (length f.d.now)
+
 -- how long the right side and each scratch list is
 pub record SolveRoom (dims : List ℕ) (x y perm sizes starts : ℕ) : Type 0 where
   pub of_x : x ≡ scalar_count dims
@@ -37,6 +42,10 @@ pub record SolveRoom (dims : List ℕ) (x y perm sizes starts : ℕ) : Type 0 wh
 abbrev pub SolvedBy : (dims order l_starts l_rows l_offsets : List ℕ) (l_values diag d x x' : List Float) → Type 0
 SolvedBy dims order l_starts l_rows l_offsets l_values diag d x x' =
     (col : ℕ → Column) → HoldsColumns (tables (sizes_of dims order) l_starts l_rows l_offsets) l_values diag d (length dims) col → x' ≡ solution dims order col x
+
+-- the same with the struct
+abbrev pub SolvedWith : (dims : List ℕ) → Factor → (x x' : List Float) → Type 0
+SolvedWith dims f x x' = SolvedBy dims f.order.now f.l_starts.now f.l_rows.now f.l_offsets.now f.l_values.now f.diag.now f.d.now x x'
 
 -- by new number: where the flat list y showed a vector, it shows the solved one
 abbrev pub Substitutes : (t : Tables) (starts : List ℕ) (l_values diag d y y' : List Float) → Type 0

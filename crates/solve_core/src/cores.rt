@@ -1,58 +1,54 @@
 // The solve with a block factor, where the tables are known to be good and each list has exactly its need.
+// Kept: what each call asks of a factor is one record, `FactorFits`. The bounds on the dimensions and on the order stand by themselves: other calls ask
+// for only one of them, or with another list beside them.
 ghost use Rattle.std.specs.Prelude.{◌≡◌, ◌+◌, ◌≤◌, length, replicate};
 ghost use Rattle.scalar.specs.Block.{zeros};
 ghost use Rattle.graph.specs.Order.{Permutes};
 ghost use Rattle.tables.specs.Sound.{Sizes};
 ghost use Rattle.order.specs.Order.{sizes_of};
 ghost use Rattle.scalars.specs.Scalars.{scalar_starts, scalar_count, scalar_perm};
-ghost use Rattle.layout.specs.Layout.{tables, unit_starts_of, RowsLaid, DiagonalLaid, work_need};
-ghost use Rattle.solution.specs.Flat.{BlocksLaid};
-ghost use Rattle.solve_core.specs.Core.{Solvable, SolveRoom, SolvedBy, Cleared, Substitutes};
+ghost use Rattle.layout.specs.Layout.{unit_starts_of, DiagonalLaid};
+ghost use Rattle.sweep.specs.Sweep.{Laid, rows_of};
+ghost use Rattle.solve_core.specs.Core.{FactorFits, SolveRoom, SolvedWith, Cleared, Substitutes};
 
 use backward::cores::backward;
 use block_solves::cores::solve_blocks;
 use forward::cores::forward;
+use lists::Factor;
 use right_side::cores::{permute, unpermute};
+use sweep::Rows;
 
-// x, the right side in old order, becomes the solution. The order of elimination and the factor's tables and numbers are as `factorize`
-// leaves them. The rest is scratch, and ends as zeros:
+// x, the right side in old order, becomes the solution. The factor's order, tables and numbers are as `factorize` leaves them; its
+// parents are not read. The rest is scratch, and ends as zeros:
 //     y        the vector by new number: a number for each scalar
 //     perm     the old number of each new scalar
 //     sizes    the dimension of each new block: n
 //     starts   where the scalars of each block begin, of the old ones and then of the new ones: n + 1
 pub fn solve_core(
     dims: &[u32],
-    order: &[u32],
-    l_starts: &[u32],
-    l_rows: &[u32],
-    l_offsets: &[u32],
-    l_values: &[f64],
-    diag: &[f64],
-    d: &[f64],
+    f: &Factor,
     x: &mut [f64],
     y: &mut [f64],
     perm: &mut [u32],
     sizes: &mut [u32],
     starts: &mut [u32],
 )
-    requires solvable { Solvable dims.now order.now l_starts.now l_rows.now l_offsets.now (length l_values.now) (length diag.now) (length d.now) }
+    requires solvable { FactorFits dims.now f.now }
     requires solve_room { SolveRoom dims.now (length x.old) (length y.old) (length perm.old) (length sizes.old) (length starts.old) }
-    ensures solved_by { SolvedBy dims.now order.now l_starts.now l_rows.now l_offsets.now l_values.now diag.now d.now x.old x.new }
+    ensures solved_by { SolvedWith dims.now f.now x.old x.new }
     ensures y_after { (y.new ≡ zeros (length y.old)) × (perm.new ≡ replicate (length perm.old) 0) × (sizes.new ≡ replicate (length sizes.old) 0) × (starts.new ≡ replicate (length starts.old) 0) }
 {
-    solve_tables(dims, order, perm, sizes, starts);
+    solve_tables(dims, f.order, perm, sizes, starts);
     permute(&perm[..], &x[..], y);
-    substitute(
-        &sizes[..],
-        &starts[..],
-        l_starts,
-        l_rows,
-        l_offsets,
-        l_values,
-        diag,
-        d,
-        y,
-    );
+    let r = Rows {
+        sizes: &sizes[..],
+        starts: &starts[..],
+        l_starts: f.l_starts,
+        l_rows: f.l_rows,
+        l_offsets: f.l_offsets,
+        l_values: f.l_values,
+    };
+    substitute(&r, f.diag, f.d, y);
     unpermute(&perm[..], &y[..], x);
     scalar::clear(y);
     buckets::cores::fill(perm, 0);
@@ -63,22 +59,16 @@ pub fn solve_core(
 // The same where scratch may be longer than its need: the work is done in the first places of each, and those beyond are as they were.
 pub fn solve_lent(
     dims: &[u32],
-    order: &[u32],
-    l_starts: &[u32],
-    l_rows: &[u32],
-    l_offsets: &[u32],
-    l_values: &[f64],
-    diag: &[f64],
-    d: &[f64],
+    f: &Factor,
     x: &mut [f64],
     y: &mut [f64],
     perm: &mut [u32],
     sizes: &mut [u32],
     starts: &mut [u32],
 )
-    requires solvable { Solvable dims.now order.now l_starts.now l_rows.now l_offsets.now (length l_values.now) (length diag.now) (length d.now) }
+    requires solvable { FactorFits dims.now f.now }
     requires x_len { (length x.old ≡ scalar_count dims.now) × (scalar_count dims.now ≤ length y.old) × (scalar_count dims.now ≤ length perm.old) × (length dims.now ≤ length sizes.old) × (length dims.now + 1 ≤ length starts.old) }
-    ensures solved_by { SolvedBy dims.now order.now l_starts.now l_rows.now l_offsets.now l_values.now diag.now d.now x.old x.new }
+    ensures solved_by { SolvedWith dims.now f.now x.old x.new }
     ensures cleared { Cleared dims.now y.old perm.old sizes.old starts.old y.new perm.new sizes.new starts.new }
 {
     let m = x.len();
@@ -86,13 +76,7 @@ pub fn solve_lent(
     let n1 = n + 1;
     solve_core(
         dims,
-        order,
-        l_starts,
-        l_rows,
-        l_offsets,
-        l_values,
-        diag,
-        d,
+        f,
         x,
         &mut y[..m],
         &mut perm[..m],
@@ -121,22 +105,12 @@ fn solve_tables(
 }
 
 // The three parts of the solve, on a vector by new number.
-fn substitute(
-    sizes: &[u32],
-    starts: &[u32],
-    l_starts: &[u32],
-    l_rows: &[u32],
-    l_offsets: &[u32],
-    l_values: &[f64],
-    diag: &[f64],
-    d: &[f64],
-    y: &mut [f64],
-)
-    requires rows_laid { RowsLaid (tables sizes.now l_starts.now l_rows.now l_offsets.now) (length sizes.now) (length l_values.now) (work_need sizes.now) × BlocksLaid sizes.now starts.now (length y.old) }
-    requires starts_value { (starts.now ≡ scalar_starts sizes.now) × DiagonalLaid sizes.now (unit_starts_of sizes.now) starts.now (length sizes.now) (length diag.now) (length d.now) }
-    ensures { Substitutes (tables sizes.now l_starts.now l_rows.now l_offsets.now) starts.now l_values.now diag.now d.now y.old y.new }
+fn substitute(r: &Rows, diag: &[f64], d: &[f64], y: &mut [f64])
+    requires laid { Laid r.now (length y.old) }
+    requires starts_value { (r.now.starts.now ≡ scalar_starts r.now.sizes.now) × DiagonalLaid r.now.sizes.now (unit_starts_of r.now.sizes.now) r.now.starts.now (length r.now.sizes.now) (length diag.now) (length d.now) }
+    ensures { Substitutes (rows_of r.now) r.now.starts.now r.now.l_values.now diag.now d.now y.old y.new }
 {
-    forward(sizes, starts, l_starts, l_rows, l_offsets, l_values, y);
-    solve_blocks(sizes, starts, diag, d, y);
-    backward(sizes, starts, l_starts, l_rows, l_offsets, l_values, y);
+    forward(r, y);
+    solve_blocks(r.sizes, r.starts, diag, d, y);
+    backward(r, y);
 }

@@ -1,5 +1,7 @@
 // 12 of document 01 for a solve, where the tables have passed 1 to 9: a factor whose tables are not those of the system that it is called
 // with, or a list of another length. No scratch is lent, and nothing is written.
+// Kept: what the checks have found of A's dimensions, of an order or of the factor's columns, as facts. A struct of lists that have passed would be built after each
+// check and opened again here, where one list of it is read.
 ghost use Rattle.std.specs.Prelude.{◌≡◌, ◌≤◌, length};
 ghost use Rattle.graph.specs.Order.{Permutes};
 ghost use Rattle.refusal.specs.Refusal.{verdict};
@@ -12,30 +14,29 @@ use crate::MatchError;
 use factor_match::cores::first_wrong;
 use factor_order::cores::{offsets_are, order_is};
 use factor_tables::cores::{scalars, unit_numbers};
-use solve_checks::{Factor, System};
+use lists::{Factor, Night};
+use match_rows::cores::Links;
 
 // The first of them, in the order of the call. The factor's numbers and the right side are tested by their counts alone.
 //     x   how many numbers the right side has
 #[tactic(auto, using(crate::proofs::TestLaws::match_laws))]
-pub fn first_mismatch(system: &System, factor: &Factor, x: usize) -> Result<(), MatchError>
-    requires { PlanSound system.now.dims.now system.now.starts.now system.now.rows.now system.now.perm.now system.now.late.now × Columns past_diagonal (length system.now.dims.now) factor.now.l_starts.now factor.now.l_rows.now }
-    ensures { told_matched result ≡ match_verdict system.now.dims.now system.now.starts.now system.now.rows.now system.now.perm.now system.now.late.now factor.now.order.now factor.now.parents.now factor.now.l_starts.now factor.now.l_rows.now factor.now.l_offsets.now (length factor.now.diag.now) (length factor.now.d.now) x }
+pub fn first_mismatch(night: &Night, factor: &Factor, x: usize) -> Result<(), MatchError>
+    requires { PlanSound night.now.dims.now night.now.starts.now night.now.rows.now night.now.perm.now night.now.late.now × Columns past_diagonal (length night.now.dims.now) factor.now.l_starts.now factor.now.l_rows.now }
+    ensures { told_matched result ≡ match_verdict night.now.dims.now night.now.starts.now night.now.rows.now night.now.perm.now night.now.late.now factor.now.order.now factor.now.parents.now factor.now.l_starts.now factor.now.l_rows.now factor.now.l_offsets.now (length factor.now.diag.now) (length factor.now.d.now) x }
 {
-    if !order_is(system.perm, system.late, factor.order) {
+    if !order_is(night.perm, night.late, factor.order) {
         return Err(MatchError::Mismatch { place: 5 });
     }
-    if factor.parents.len() != system.dims.len() {
+    if factor.parents.len() != night.dims.len() {
         return Err(MatchError::Mismatch { place: 6 });
     }
-    first_wrong(
-        system.starts,
-        system.rows,
-        factor.order,
-        factor.parents,
-        factor.l_starts,
-        factor.l_rows,
-    )?;
-    first_shape(system.dims, factor, x)
+    let links = Links {
+        starts: night.starts,
+        rows: night.rows,
+        order: factor.order,
+    };
+    first_wrong(&links, factor.parents, factor.l_starts, factor.l_rows)?;
+    first_shape(night.dims, factor, x)
 }
 
 // The last of them: the offsets, and the counts of the numbers.

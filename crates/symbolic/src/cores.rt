@@ -1,6 +1,8 @@
 // The plan of L: how many rows each column has, where each begins, and the rows themselves, from an upper pattern and Liu's table of parents.
 // For j ascending the columns that reach j are walked and j goes to the end of each: every column comes out ascending, with no sorting.
 // Both passes do their work on a column where the climb comes upon it, so neither makes a list of what it found.
+// Kept: what is known of the parents, and how long is what is lent, as facts: a climb takes the parents' table alone, or one that leads onward in its place, and the lists
+// are lent apart.
 ghost use Rattle.std.specs.Prelude.{◌≡◌, ℕ, ◌+◌, ◌*◌, ◌<◌, ◌≤◌, T, ◌++◌, reverse, length, drop, slice_index};
 ghost use Rattle.graph.specs.Sets.{elem, between, gather, sum};
 ghost use Rattle.graph.specs.Count.{products_of};
@@ -10,6 +12,7 @@ ghost use Rattle.reach.specs.Reach.{Parents, reached};
 ghost use Rattle.buckets.specs.Buckets.{bumps, stores, Roomy, lengths, Laid};
 ghost use Rattle.symbolic.specs.Columns.{Tree, Below, Sized, found, columns_of, numbers_of};
 
+use crate::UpperTree;
 use tables::cores::{NONE, wide};
 
 // The columns that reach column j, at the end of `out` from the returned place on. The mark is j + 1.
@@ -70,31 +73,33 @@ fn count_climbs(
 }
 
 // The counting pass: how many rows each column of L has, and how many numbers L has, which is returned. `sizes` has the blocks'
-// dimensions. `stamp` is scratch; nothing is put into `out`.
-pub fn counts(
-    starts: &[u32],
-    rows: &[u32],
-    parent: &[u32],
-    sizes: &[u32],
-    stamp: &mut [u32],
-    out: &mut [u32],
-    count: &mut [u32],
-) -> usize
-    requires tree { Tree (length parent.now) starts.now rows.now parent.now × Sized (length parent.now) sizes.now }
-    requires stamp_len { (length stamp.old ≡ length parent.now) × (length out.old ≡ length parent.now) × (length count.old ≡ length parent.now) }
-    ensures value { result ≡ numbers_of (linked_up starts.now rows.now) (length parent.now) sizes.now }
-    ensures count_after { count.new ≡ lengths (columns_of starts.now rows.now (length parent.now)) }
+// dimensions. `stamp` is scratch.
+// Not joined into its caller: there its loops would keep their lists on the stack.
+#[inline(never)]
+pub fn counts(t: &UpperTree, sizes: &[u32], stamp: &mut [u32], count: &mut [u32]) -> usize
+    requires tree { Tree (length t.now.parent.now) t.now.starts.now t.now.rows.now t.now.parent.now × Sized (length t.now.parent.now) sizes.now }
+    requires stamp_len { (length stamp.old ≡ length t.now.parent.now) × (length count.old ≡ length t.now.parent.now) }
+    ensures value { result ≡ numbers_of (linked_up t.now.starts.now t.now.rows.now) (length t.now.parent.now) sizes.now }
+    ensures count_after { count.new ≡ lengths (columns_of t.now.starts.now t.now.rows.now (length t.now.parent.now)) }
 {
     buckets::cores::fill(stamp, 0);
     buckets::cores::fill(count, 0);
-    let n = parent.len();
+    let n = t.parent.len();
     let mut numbers: usize = 0;
     for j in 0..n {
-        let from = starts[j] as usize;
-        let to = starts[j + 1] as usize;
+        let from = t.starts[j] as usize;
+        let to = t.starts[j + 1] as usize;
         let mark = j as u32 + 1;
         stamp[j] = mark;
-        let added = count_climbs(parent, &rows[from..to], sizes, j as u32, mark, stamp, count);
+        let added = count_climbs(
+            t.parent,
+            &t.rows[from..to],
+            sizes,
+            j as u32,
+            mark,
+            stamp,
+            count,
+        );
         numbers += sizes[j] as usize * added;
     }
     numbers
@@ -135,32 +140,36 @@ pub fn store_climbs(
     }
 }
 
-// The filling pass: the rows of L, column after column, into exactly the places that `l_starts` gives. `stamp` and `next` are scratch;
-// nothing is put into `out`.
+// The filling pass: the rows of L, column after column, into exactly the places that `l_starts` gives. `stamp` and `next` are scratch.
 pub fn fill(
-    starts: &[u32],
-    rows: &[u32],
-    parent: &[u32],
+    t: &UpperTree,
     l_starts: &[u32],
     stamp: &mut [u32],
-    out: &mut [u32],
     next: &mut [u32],
     l_rows: &mut [u32],
 )
-    requires tree { Tree (length parent.now) starts.now rows.now parent.now }
-    requires stamp_len { (length stamp.old ≡ length parent.now) × (length out.old ≡ length parent.now) × (length next.old ≡ length parent.now) }
-    requires laid { Laid (columns_of starts.now rows.now (length parent.now)) l_starts.now (length l_rows.old) }
-    ensures { l_rows.new ≡ gather (L.rows (linked_up starts.now rows.now) (length parent.now)) (between 0 (length parent.now)) }
+    requires tree { Tree (length t.now.parent.now) t.now.starts.now t.now.rows.now t.now.parent.now }
+    requires stamp_len { (length stamp.old ≡ length t.now.parent.now) × (length next.old ≡ length t.now.parent.now) }
+    requires laid { Laid (columns_of t.now.starts.now t.now.rows.now (length t.now.parent.now)) l_starts.now (length l_rows.old) }
+    ensures { l_rows.new ≡ gather (L.rows (linked_up t.now.starts.now t.now.rows.now) (length t.now.parent.now)) (between 0 (length t.now.parent.now)) }
 {
     buckets::cores::fill(stamp, 0);
     buckets::cores::copy(l_starts, next);
-    let n = parent.len();
+    let n = t.parent.len();
     for j in 0..n {
-        let from = starts[j] as usize;
-        let to = starts[j + 1] as usize;
+        let from = t.starts[j] as usize;
+        let to = t.starts[j + 1] as usize;
         let mark = j as u32 + 1;
         stamp[j] = mark;
-        store_climbs(parent, &rows[from..to], j as u32, mark, stamp, next, l_rows);
+        store_climbs(
+            t.parent,
+            &t.rows[from..to],
+            j as u32,
+            mark,
+            stamp,
+            next,
+            l_rows,
+        );
     }
 }
 

@@ -1,6 +1,7 @@
 // The searches that the checks of tables are made of, those over the row table apart. How one is made:
 //   NAME_ok      one place of one table: its test in specs/Verdict.antt
 //   first_NAME   the first place at which the test fails, if there is one
+// Kept: what is asked of a single number, a place or a count, as a fact of the one call that has it.
 ghost use Rattle.std.specs.Prelude.{◌≡◌, ℕ, Bool, ◌+◌, ◌<◌, ◌≤◌, length, take};
 ghost use Rattle.tables.specs.Search.{fault};
 ghost use Rattle.tables.specs.Verdict.{dim_ok, rises_at, start_ok, perm_ok, late_ok, parent_ok};

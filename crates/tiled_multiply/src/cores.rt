@@ -1,4 +1,6 @@
 // The product in tiles, where the lengths are known to be right.
+// Kept: how long a slice is, as a fact beside the sizes. Each core is called in one place or two, with sizes and slices as the source has them; a struct that
+// holds a size and its slice would be built anew at each of them, for the one fact that it spares.
 ghost use Rattle.std.specs.Prelude.{◌≡◌, ◌+◌, ◌-◌, ◌*◌, ◌<◌, length};
 ghost use Rattle.std.specs.Float.{binary64};
 ghost use Rattle.std.specs.Float.Ieee.{mul};
@@ -7,7 +9,7 @@ ghost use Rattle.machine.specs.Machine.{mat_product};
 ghost use Rattle.tiled_product.specs.Tiled.{Formula};
 
 use scalar::cores::entry;
-use tiled_product::tiles::{Product, one, strips};
+use tiled_product::cores::{Product, one, strips};
 
 // A B, A of h rows and m columns, B of m rows and w columns.
 #[derive(Drop)]

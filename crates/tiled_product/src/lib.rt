@@ -2,5 +2,3 @@
 #![tactic(auto)]
 
 pub mod cores;
-pub mod rows;
-pub mod tiles;

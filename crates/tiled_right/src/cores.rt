@@ -1,4 +1,6 @@
 // The solve where the lengths are known to be right.
+// Kept: how long a slice is, as a fact beside the sizes. Each core is called in one place or two, with sizes and slices as the source has them; a struct that
+// holds a size and its slice would be built anew at each of them, for the one fact that it spares.
 ghost use Rattle.std.specs.Prelude.{◌≡◌, ◌+◌, ◌*◌, ◌<◌, ◌≤◌, length, slice_index_or};
 ghost use Rattle.std.specs.Float.{nan, binary64};
 ghost use Rattle.std.specs.Float.Ieee.{mul};
@@ -9,9 +11,11 @@ ghost use Rattle.tiled_right.specs.TiledRight.{RowsSolved, tied, lost};
 
 use kernel_diag::cores::inverse_of;
 use scalar::cores::entry;
-use tiled_product::rows::{entries, height, keep};
+use tiled_product::cores::{entries, height, keep};
 
 // x becomes the block `from`, of m rows and n columns, solved from the right by the unit factor l and d: several rows at a time.
+// Kept: what goes by tiles has its loop in common and no more; its step has a const parameter, which no closure takes, and a trait for it would need a struct
+// of the call's arguments at each of the four places.
 pub fn ldlt_right_matsolve_tiled(
     m: usize,
     n: usize,

@@ -1,4 +1,6 @@
 // The two products where the parts are known to lie in the vector, the one behind the other.
+// Kept: how long a slice is, as a fact beside the sizes. Each core is called in one place or two, with sizes and slices as the source has them; a struct that
+// holds a size and its slice would be built anew at each of them, for the one fact that it spares.
 ghost use Rattle.std.specs.Prelude.{◌≡◌, ◌+◌, ◌*◌, ◌<◌, ◌≤◌, length, slice_index_or};
 ghost use Rattle.std.specs.Float.{nan};
 ghost use Rattle.scalar.specs.Block.{at, gain, within};
@@ -9,11 +11,13 @@ ghost use Rattle.block_product.specs.Working.{slot};
 ghost use Rattle.tiled_vector.specs.TiledVector.{less_held, less_from};
 
 use scalar::cores::entry;
-use tiled_product::rows::{entries, height};
+use tiled_product::cores::{entries, height};
 
 // ---- rows
 
 // The h numbers of y from t on lose A times the w numbers from s on, which stand before them.
+// Kept: what goes by tiles has its loop in common and no more; its step has a const parameter, which no closure takes, and a trait for it would need a struct
+// of the call's arguments at each of the four places.
 pub fn sub_rows(h: usize, w: usize, a: &[f64], y: &mut [f64], s: usize, t: usize)
     requires { (length a.now ≡ h * w) × (s + w ≤ t) × (t + h ≤ length y.old) }
     ensures { y.new ≡ within t h (λ z. sub_mat_plus_vec h w z a.now (slot s w y.old)) y.old }

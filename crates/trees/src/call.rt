@@ -1,7 +1,7 @@
 // Calls of the list on the same tables: read, made and judged. A turn has six words in front, after its kind: how many calls there are, and
 // the lengths of starts, rows, parents and the two lent buffers. A call has six words too: 1 for a tree or 2 for a walk, the
 // blocks or the block, the mark, and what is told; then the lent buffers afterwards.
-use crate::told::{of_tree, of_walk, says};
+use crate::told::says;
 use word_list::cases::{BadList, Case, kind};
 use word_list::lent::{listed, table};
 use word_list::room::{BLOCKS, held};
@@ -84,8 +84,10 @@ fn call(
     let at = w[1] as usize;
     if w[0] == TREE {
         let grown = elimination_tree::new(at, starts, rows, a, b);
-        return says(w, &grown, of_tree(&grown));
+        return says(w, &grown, (0, 0));
     }
     let walked = reach::reach(starts, rows, parents, at, w[2], a, b);
-    says(w, &walked, of_walk(&walked))
+    // accepted, the mark that the walk used and where its list begins
+    let found = walked.map_or((0, 0), |m| (m.mark as usize, m.top));
+    says(w, &walked, found)
 }

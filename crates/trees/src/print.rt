@@ -27,6 +27,7 @@ pub fn bad() {
 }
 
 // A call of a turn comes out otherwise than listed.
+// Kept: the list's number of a kind, by which its name stands in the table.
 pub fn wrong(k: u64, kind: usize) {
     write_all(STDOUT, b"wrong: turn ");
     print_decimal(STDOUT, k);

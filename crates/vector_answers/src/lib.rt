@@ -30,6 +30,9 @@ pub struct Told {
     pub float: f64,
 }
 
+// ---- an answer, by its number in document 01
+// Kept: the number itself, which the list has as a word.
+
 // With a number alone.
 fn bare(number: usize) -> Told
     ensures { spelled result ≡ tells number [] [] }
@@ -72,56 +75,63 @@ fn full(number: usize, first: usize, second: usize, float: f64) -> Told
     }
 }
 
-pub fn of_shaped(s: Result<(), ShapeError>) -> Told
-    ensures { spelled result ≡ told s }
-{
-    match s {
-        Ok(_) => bare(0),
-        Err(ShapeError::Dimension { place }) => placed(2, place),
-        Err(ShapeError::Mismatch { place }) => placed(12, place),
+impl From<Result<(), ShapeError>> for Told {
+    ghost from_gives = { λ s t. spelled t ≡ told s };
+
+    fn from(s: Result<(), ShapeError>) -> Told {
+        match s {
+            Ok(_) => bare(0),
+            Err(ShapeError::Dimension { place }) => placed(2, place),
+            Err(ShapeError::Mismatch { place }) => placed(12, place),
+        }
     }
 }
 
-pub fn of_dense(r: Result<LdltResult, LdltError>) -> Told
-    ensures { spelled result ≡ told_dense r }
-{
-    match r {
-        Ok(k) => of_result(k),
-        Err(LdltError::Dimension { place }) => placed(2, place),
-        Err(LdltError::Tolerance) => bare(10),
-        Err(LdltError::Mismatch { place }) => placed(12, place),
-        Err(LdltError::NotFinite { place, pivot }) => full(13, 0, place, pivot),
+impl From<Result<LdltResult, LdltError>> for Told {
+    ghost from_gives = { λ r t. spelled t ≡ told_dense r };
+
+    fn from(r: Result<LdltResult, LdltError>) -> Told {
+        match r {
+            Ok(k) => Told::from(k),
+            Err(LdltError::Dimension { place }) => placed(2, place),
+            Err(LdltError::Tolerance) => bare(10),
+            Err(LdltError::Mismatch { place }) => placed(12, place),
+            Err(LdltError::NotFinite { place, pivot }) => full(13, 0, place, pivot),
+        }
     }
 }
 
-pub fn of_block(r: Result<LdltResult, DecomposeError>) -> Told
-    ensures { spelled result ≡ told_block r }
-{
-    match r {
-        Ok(k) => of_result(k),
-        Err(DecomposeError::Dimension { place }) => placed(2, place),
-        Err(DecomposeError::Tolerance) => bare(10),
-        Err(DecomposeError::Mismatch { place }) => placed(12, place),
-        Err(DecomposeError::NotFinite { place, pivot }) => full(13, 0, place, pivot),
-        Err(DecomposeError::Poor { condition }) => Told {
-            number: 14,
-            indices: 1,
-            first: 0,
-            second: 0,
-            floats: 1,
-            float: condition,
-        },
+impl From<Result<LdltResult, DecomposeError>> for Told {
+    ghost from_gives = { λ r t. spelled t ≡ told_block r };
+
+    fn from(r: Result<LdltResult, DecomposeError>) -> Told {
+        match r {
+            Ok(k) => Told::from(k),
+            Err(DecomposeError::Dimension { place }) => placed(2, place),
+            Err(DecomposeError::Tolerance) => bare(10),
+            Err(DecomposeError::Mismatch { place }) => placed(12, place),
+            Err(DecomposeError::NotFinite { place, pivot }) => full(13, 0, place, pivot),
+            Err(DecomposeError::Poor { condition }) => Told {
+                number: 14,
+                indices: 1,
+                first: 0,
+                second: 0,
+                floats: 1,
+                float: condition,
+            },
+        }
     }
 }
 
-fn of_result(k: LdltResult) -> Told
-    ensures { spelled result ≡ told_result k }
-{
-    let definiteness = k.definiteness;
-    match definiteness {
-        Definiteness::PositiveDefinite => full(0, k.rank, 0, k.pivot_condition),
-        Definiteness::PositiveSemiDefinite => full(0, k.rank, 1, k.pivot_condition),
-        Definiteness::Indefinite => full(0, k.rank, 2, k.pivot_condition),
+impl From<LdltResult> for Told {
+    ghost from_gives = { λ k t. spelled t ≡ told_result k };
+
+    fn from(k: LdltResult) -> Told {
+        match k.definiteness {
+            Definiteness::PositiveDefinite => full(0, k.rank, 0, k.pivot_condition),
+            Definiteness::PositiveSemiDefinite => full(0, k.rank, 1, k.pivot_condition),
+            Definiteness::Indefinite => full(0, k.rank, 2, k.pivot_condition),
+        }
     }
 }
 

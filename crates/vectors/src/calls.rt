@@ -14,7 +14,7 @@ use kernel_right_transpose::lower_transpose_rightsolve_inplace;
 use kernel_vector::sub_mat_plus_vec_inplace;
 use kernel_vector_transpose::sub_mat_transpose_plus_vec_in_place;
 use replay::{count, float};
-use vector_answers::{Told, of_block, of_dense, of_shaped};
+use vector_answers::Told;
 use word_list::cases::BadList;
 
 // A function of the library.
@@ -111,32 +111,33 @@ pub fn head_of(w: &[u8]) -> Head {
 }
 
 // The call of a case whose numbers stand in a, b, c and d, as many of them as its function takes.
+// Kept: a `match` over an enumeration, whose every case is a call of its own.
 pub fn call(op: Op, h: Head, a: &mut [f64], b: &mut [f64], c: &mut [f64], d: &mut [f64]) -> Told {
     let (p, q, r) = (h.p, h.q, h.r);
     match op {
-        Op::LowerSolve => of_shaped(lower_solve_inplace(p, a, b)),
-        Op::LowerMatsolve => of_shaped(lower_matsolve_inplace(p, q, a, b)),
-        Op::LowerTransposeSolve => of_shaped(lower_transpose_solve_inplace(p, a, b)),
-        Op::LowerTransposeMatsolve => of_shaped(lower_transpose_matsolve_inplace(p, q, a, b)),
-        Op::DiagSolve => of_shaped(diag_solve_inplaced(p, a, b)),
-        Op::DiagMatsolve => of_shaped(diag_matsolve_inplaced(p, q, a, b)),
-        Op::LowerRightSolve => of_shaped(lower_right_solve_inplace(p, q, a, b)),
+        Op::LowerSolve => Told::from(lower_solve_inplace(p, a, b)),
+        Op::LowerMatsolve => Told::from(lower_matsolve_inplace(p, q, a, b)),
+        Op::LowerTransposeSolve => Told::from(lower_transpose_solve_inplace(p, a, b)),
+        Op::LowerTransposeMatsolve => Told::from(lower_transpose_matsolve_inplace(p, q, a, b)),
+        Op::DiagSolve => Told::from(diag_solve_inplaced(p, a, b)),
+        Op::DiagMatsolve => Told::from(diag_matsolve_inplaced(p, q, a, b)),
+        Op::LowerRightSolve => Told::from(lower_right_solve_inplace(p, q, a, b)),
         Op::LowerTransposeRightsolve => {
-            of_shaped(lower_transpose_rightsolve_inplace(p, q, a, b))
+            Told::from(lower_transpose_rightsolve_inplace(p, q, a, b))
         }
-        Op::DiagRightMatsolve => of_shaped(diag_right_matsolve_inplace(p, q, a, b)),
-        Op::SubMatDiagMatT => of_shaped(sub_mat_diag_mat_t_inplace(p, q, r, a, b, c, d)),
-        Op::AddMatDiagMatT => of_shaped(add_mat_diag_mat_t_inplace(p, q, r, a, b, c, d)),
-        Op::SubMatPlusVec => of_shaped(sub_mat_plus_vec_inplace(p, q, a, b, c)),
+        Op::DiagRightMatsolve => Told::from(diag_right_matsolve_inplace(p, q, a, b)),
+        Op::SubMatDiagMatT => Told::from(sub_mat_diag_mat_t_inplace(p, q, r, a, b, c, d)),
+        Op::AddMatDiagMatT => Told::from(add_mat_diag_mat_t_inplace(p, q, r, a, b, c, d)),
+        Op::SubMatPlusVec => Told::from(sub_mat_plus_vec_inplace(p, q, a, b, c)),
         Op::SubMatTransposePlusVec => {
-            of_shaped(sub_mat_transpose_plus_vec_in_place(p, q, a, b, c))
+            Told::from(sub_mat_transpose_plus_vec_in_place(p, q, a, b, c))
         }
-        Op::LdltDecompose => of_dense(ldlt_decompose_inplace(p, a, b, h.tolerance)),
-        Op::LdltSolve => of_shaped(ldlt_solve_inplace(p, a, b, c)),
-        Op::LdltMatsolve => of_shaped(ldlt_matsolve_inplace(p, q, a, b, c)),
-        Op::LdltRightMatsolve => of_shaped(ldlt_right_matsolve_inplace(p, q, a, b, c)),
-        Op::Decompose => of_block(decompose(p, a, b, c, h.tolerance)),
-        Op::SolveVec => of_shaped(solve_inplace_vec(p, a, b, c)),
-        Op::RightSolve => of_shaped(right_solve_inplace(p, q, a, b, c)),
+        Op::LdltDecompose => Told::from(ldlt_decompose_inplace(p, a, b, h.tolerance)),
+        Op::LdltSolve => Told::from(ldlt_solve_inplace(p, a, b, c)),
+        Op::LdltMatsolve => Told::from(ldlt_matsolve_inplace(p, q, a, b, c)),
+        Op::LdltRightMatsolve => Told::from(ldlt_right_matsolve_inplace(p, q, a, b, c)),
+        Op::Decompose => Told::from(decompose(p, a, b, c, h.tolerance)),
+        Op::SolveVec => Told::from(solve_inplace_vec(p, a, b, c)),
+        Op::RightSolve => Told::from(right_solve_inplace(p, q, a, b, c)),
     }
 }

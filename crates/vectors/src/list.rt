@@ -74,6 +74,7 @@ fn agrees(w: &[u8], op: Op, a: &mut [f64], b: &mut [f64], c: &mut [f64], d: &mut
     matches(w, answer(w), call(op, head_of(w), a, b, c, d)) && same_slices(w, a, b, c, d)
 }
 
+// Kept: each slice is compared by `same_slice`, for which a NaN is a NaN and the zeros differ.
 fn same_slices(w: &[u8], a: &[f64], b: &[f64], c: &[f64], d: &[f64]) -> bool {
     same_slice(w, after(w, 0), a)
         && same_slice(w, after(w, 1), b)

@@ -18,6 +18,7 @@ pub struct Case {
 
 impl Case {
     // One call, and whether it comes out as listed.
+    // Kept: the list's number of a kind, as in `Case`.
     pub fn one(kind: usize, is_right: bool) -> Case
         ensures { result ≡ record { kind = kind; count = record { cases = 1; right = cond is_right 1 0 } } }
     {

@@ -38,6 +38,7 @@ pub fn bad(k: u64)
 }
 
 // The name of a kind, of the names from 1 on: a kind past the last has the last name.
+// Kept: each program has its own names, in a table that the list's numbers count.
 pub fn name(names: &[&[u8]], kind: usize)
     ensures { Unit {0} }
 {
@@ -47,6 +48,7 @@ pub fn name(names: &[&[u8]], kind: usize)
 }
 
 // A case of a kind comes out otherwise than listed.
+// Kept: the list's number of a kind, which `name` looks up.
 pub fn wrong(names: &[&[u8]], k: u64, kind: usize)
     ensures { Unit {0} }
 {

@@ -1,10 +1,8 @@
 -- The products of column j: what the plan gives `apply_reach`, and that what it works through is the machine's own order.
---     fits       every block that the products read or write lies in its list
---     next_on    the next places afterwards
---     few        the products of one column are at most 4,096²
---     works      the promise
+--     asked    every block that the products read or write lies in its list, and the count has room for them
+--     gives    the promise
 -- Assumes nothing.
-use Rattle.std.specs.Prelude.{◌≡◌, ℕ, ◌+◌, ◌-◌, ◌*◌, ◌<◌, ◌≤◌, Bool, T, ltb, List, [], ◌∷◌, map, length, take, drop}
+use Rattle.std.specs.Prelude.{◌≡◌, ℕ, ◌+◌, ◌-◌, ◌*◌, ◌^◌, ◌<◌, ◌≤◌, Bool, T, ltb, List, [], ◌∷◌, map, length, take, drop}
 use mathlib.Core.Logic.{⊎_elim}
 use mathlib.Core.Path.{refl, sym, ap, subst, ◌∙◌}
 use native.Mathlib.Omega.{arith}
@@ -12,7 +10,7 @@ use native.Mathlib.Nat.{suc-mul, mul-le-mul}
 use lib.Dec.{ltb→lt}
 use lib.Ieee.{Float}
 use lib.ListN.{length-drop, length-map, length-append}
-use lib.Seq.{take-add, drop_at, drop-drop, length-take-le}
+use lib.Seq.{take_all, take-add, drop_at, drop-drop, length-take-le}
 use Rattle.graph.specs.Sets.{elem, filter, gather}
 use Rattle.graph.specs.Fill.{made}
 use Rattle.graph.specs.Liu.{tree_parent}
@@ -27,7 +25,6 @@ use Rattle.buckets.proofs.Lists.{elem_at}
 use Rattle.tables.specs.Verdict.{at}
 use Rattle.elimination_tree.specs.Tree.{linked_up}
 use Rattle.elimination_tree.proofs.Links.{linked-symm}
-use Rattle.machine.specs.System.{order}
 use Rattle.machine.specs.Machine.{column_at, load, products, sequence, worked}
 use Rattle.machine.proofs.ListLaws.{gather_ext}
 use Rattle.block_product.specs.Working.{slot, Shows}
@@ -141,6 +138,26 @@ module _ (t : Tables) (n v w : ℕ) (laid : RowsLaid t n v w) (into upper : List
         (subst (λ (x : ℕ). T (elem x (rows_from p t.l_starts next k))) (at_slot t.l_rows (at next k) (stop_of t k - at next k) (u - at next k) (omega arith) ∙ ap (at t.l_rows) z)
         (elem_at (rows_from p t.l_starts next k) (u - at next k) (omega arith)))
 
+  -- ---- the next places afterwards
+
+  next_on : Next t n (j + 1) (advanced found next)
+  next_on = record { count = advanced-length found next ∙ nx.count; place = λ k h. ⊎_elim (moved k h) (stayed k h) (decide (elem k found)) }
+    where
+      moved : (k : ℕ) → k < n → T (elem k found) → at (advanced found next) k ≡ next_of t (j + 1) k
+      moved k h m =
+          let e = nx.place k h in
+          let l = less-more j (rows_at t k) (laid.ascends k h) (has-row k m) in
+          let q = nx.count in
+          advanced-own found next k (theory.once j below) m (omega arith) ∙ omega arith
+
+      stayed : (k : ℕ) → k < n → (T (elem k found) → ⊥) → at (advanced found next) k ≡ next_of t (j + 1) k
+      stayed k h f = advanced-other found next k f ∙ nx.place k h ∙ sym (ap (λ (x : ℕ). start_of t k + x) (less-same j (rows_at t k) out))
+        where
+          out : T (elem j (rows_at t k)) → ⊥
+          out e =
+              let r = subst (λ (l : List ℕ). T (elem j l)) (grown k h) e in
+              f ((theory.walk j k below).1 (((rows_right linked n (linked-symm into upper) k h).sound j r).0, r))
+
   -- ---- what the products need
 
   -- a block's area is at most 256
@@ -179,7 +196,7 @@ module _ (t : Tables) (n v w : ℕ) (laid : RowsLaid t n v w) (into upper : List
           scaled = let a = area j k below hk in omega arith;
         }
 
-    pub fits : ReachFit p t.l_starts j found next v diag d qj qi w
+    fits : ReachFit p t.l_starts j found next v diag d qj qi w
     fits =
         record {
           once = theory.once j below;
@@ -199,7 +216,7 @@ module _ (t : Tables) (n v w : ℕ) (laid : RowsLaid t n v w) (into upper : List
         (λ k m. ap (map (triple j k)) (from_is k m p refl ∙ ap (λ (l : List ℕ). j ∷ filter (λ i. ltb j i) l) (grown k (in_table k m))))
         ∙ ap (gather (λ k. map (triple j k) (j ∷ filter (λ i. ltb j i) (rows linked n k)))) (reach-tree linked n (linked-symm into upper) j below)
 
-    pub works : (values diag' d' cache c c' : List Float) (count count' : ℕ) (next' : List ℕ)
+    works : (values diag' d' cache c c' : List Float) (count count' : ℕ) (next' : List ℕ)
         → ReachProducts p t.l_starts j found next values diag' d' cache c count next' c' count'
         → Works t unit_starts d_starts into upper n j places values diag' d' cache c count c' count'
     unfolding load
@@ -232,7 +249,7 @@ module _ (t : Tables) (n v w : ℕ) (laid : RowsLaid t n v w) (into upper : List
             ahead.kept k (omega arith) x (omega arith) lt f
 
     -- at most 4,096 columns reach j, with at most 4,096 rows each
-    pub few : length found ≤ n → n ≤ 4096 → length (reach_triples p t.l_starts next j found) ≤ 16777216
+    few : length found ≤ n → n ≤ 4096 → length (reach_triples p t.l_starts next j found) ≤ 16777216
     few h most =
         let g = gather-few (λ k. map (triple j k) (rows_from p t.l_starts next k)) n found rows_few in
         let l : length found ≤ 4096 = omega arith in
@@ -250,22 +267,28 @@ module _ (t : Tables) (n v w : ℕ) (laid : RowsLaid t n v w) (into upper : List
             let b = rows_short linked n (linked-symm into upper) k (in_table k m) in
             omega arith
 
-  -- ---- the next places afterwards
+    -- ---- what the products ask and give, where the walk found the columns that stand in `out` from `top` on
 
-  pub next_on : Next t n (j + 1) (advanced found next)
-  next_on = record { count = advanced-length found next ∙ nx.count; place = λ k h. ⊎_elim (moved k h) (stayed k h) (decide (elem k found)) }
-    where
-      moved : (k : ℕ) → k < n → T (elem k found) → at (advanced found next) k ≡ next_of t (j + 1) k
-      moved k h m =
-          let e = nx.place k h in
-          let l = less-more j (rows_at t k) (laid.ascends k h) (has-row k m) in
-          let q = nx.count in
-          advanced-own found next k (theory.once j below) m (omega arith) ∙ omega arith
+    module _ (out : List ℕ) (top : ℕ) (walked : drop top out ≡ found) (long : length out ≡ n) (most : n ≤ 4096) (count : ℕ) (so_far : count ≤ 16777216 * j) where
+      abbrev list : List ℕ
+      list = take (length out - top) (drop top out)
 
-      stayed : (k : ℕ) → k < n → (T (elem k found) → ⊥) → at (advanced found next) k ≡ next_of t (j + 1) k
-      stayed k h f = advanced-other found next k f ∙ nx.place k h ∙ sym (ap (λ (x : ℕ). start_of t k + x) (less-same j (rows_at t k) out))
-        where
-          out : T (elem j (rows_at t k)) → ⊥
-          out e =
-              let r = subst (λ (l : List ℕ). T (elem j l)) (grown k h) e in
-              f ((theory.walk j k below).1 (((rows_right linked n (linked-symm into upper) k h).sound j r).0, r))
+      is : list ≡ found
+      is = take_all (length out - top) (drop top out) (omega (arith, length-drop top out)) ∙ walked
+
+      few_now : length (reach_triples p t.l_starts next j list) ≤ 16777216
+      few_now =
+          subst (λ (l : List ℕ). length (reach_triples p t.l_starts next j l) ≤ 16777216) (sym is)
+          (few (omega (arith, sym (ap length walked), length-drop top out)) most)
+
+      pub asked : ReachFit p t.l_starts j list next v diag d qj qi w × (count + length (reach_triples p t.l_starts next j list) < 2 ^ 64)
+      asked = let f = few_now in let b = below in (subst (λ (l : List ℕ). ReachFit p t.l_starts j l next v diag d qj qi w) (sym is) fits, omega arith)
+
+      pub gives : (values diag' d' cache c c' : List Float) (count' : ℕ) (next' : List ℕ) → ReachProducts p t.l_starts j list next values diag' d' cache c count next' c' count'
+          → Next t n (j + 1) next' × (count' ≤ 16777216 * (j + 1)) × Works t unit_starts d_starts into upper n j places values diag' d' cache c count c' count'
+      gives values diag' d' cache c c' count' next' did =
+          let f = few_now in
+          let e = did.counts in
+          let of_found : ReachProducts p t.l_starts j found next values diag' d' cache c count next' c' count' =
+          subst (λ (l : List ℕ). ReachProducts p t.l_starts j l next values diag' d' cache c count next' c' count') is did in
+          (subst (Next t n (j + 1)) (sym of_found.moved) next_on, omega arith, works values diag' d' cache c c' count count' next' of_found)

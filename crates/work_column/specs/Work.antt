@@ -1,12 +1,12 @@
 -- The products of column j, by the columns that the walk finds, each from its next place on. Assumes nothing.
-use Rattle.std.specs.Prelude.{◌≡◌, ℕ, ◌+◌, ◌<◌, List, length, nat_lt}
+use Rattle.std.specs.Prelude.{◌≡◌, ℕ, ◌+◌, ◌<◌, ◌≤◌, List, length, nat_lt}
 use Rattle.std.specs.Prelude.{Float}
 use Rattle.graph.specs.Sets.{filter}
 use Rattle.graph.specs.Symbolic as L
 use Rattle.graph.specs.Count.{column_triples}
 use Rattle.tables.specs.Verdict.{at}
 use Rattle.elimination_tree.specs.Tree.{linked_up}
-use Rattle.symbolic.specs.Columns.{Tree}
+use Rattle.symbolic.specs.Columns.{Tree, Below}
 use Rattle.order.specs.Order.{sizes_of}
 use Rattle.machine.specs.System.{System, order}
 use Rattle.machine.specs.Machine.{State, load, sequence, worked}
@@ -14,6 +14,15 @@ use Rattle.block_product.specs.Working.{Shows}
 use Rattle.layout.specs.Layout.{Tables, side, start_of, rows_at, on_at}
 use Rattle.finish_column.specs.Finish.{HoldsAll}
 use Rattle.keep_column.specs.Keep.{KeptAll}
+use Rattle.column_products.specs.Columns.{SameWorking}
+use Rattle.work_column.specs.declared.cores.Scratch.{Scratch}
+
+-- what is lent is still the same, and as long
+pub record SameScratch (w x : Scratch) : Type 0 where
+  pub stamps : (x.stamps.ghost_name ≡ w.stamps.ghost_name) × (length x.stamps.now ≡ length w.stamps.now)
+  pub out : (x.out.ghost_name ≡ w.out.ghost_name) × (length x.out.now ≡ length w.out.now)
+  pub next : (x.next.ghost_name ≡ w.next.ghost_name) × (length x.next.now ≡ length w.next.now)
+  pub room : SameWorking w.room x.room
 
 module _ (t : Tables) where
   -- where the first row of column k from j on stands in the row table
@@ -29,6 +38,14 @@ module _ (t : Tables) where
   pub record Grown (into upper tree : List ℕ) : Type 0 where
     pub liu : Tree (length tree) into upper tree
     pub rows : (k : ℕ) → k < length tree → rows_at t k ≡ L.rows (linked_up into upper) (length tree) k
+
+  -- what is lent to work out n columns, before column j: each list is long enough, and no stamp is past it
+  pub record Ready (n j : ℕ) (w : Scratch) : Type 0 where
+    pub next : Next n j w.next.now
+    pub stamps : (length w.stamps.now ≡ n) × Below j w.stamps.now
+    pub out : length w.out.now ≡ n
+    pub places : length w.room.places.now ≡ n
+    pub rooms : (256 ≤ length w.room.qj.now) × (256 ≤ length w.room.qi.now)
 
 -- ---- what is promised
 

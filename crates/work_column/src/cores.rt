@@ -1,68 +1,44 @@
 // The products of one column, where the plan's tables are known to be good.
+// Kept: `Grown`, which the calls above ask too: it is one named record.
 ghost use Rattle.std.specs.Prelude.{◌≡◌, ◌+◌, ◌*◌, ◌<◌, ◌≤◌, length};
-ghost use Rattle.symbolic.specs.Columns.{Below};
-ghost use Rattle.layout.specs.Layout.{tables, RowsLaid, DiagonalLaid, Placed};
-ghost use Rattle.work_column.specs.Work.{Next, Grown, Works};
+ghost use Rattle.layout.specs.Layout.{laid, RowsLaid, DiagonalLaid, Placed};
+ghost use Rattle.work_column.specs.Work.{Ready, Grown, Works, SameScratch};
 
+use column_products::cores::Working;
+use lists::{Numbers, Tables};
 use reach_products::cores::apply_reach;
 use symbolic::cores::walk;
 
-// Column j, loaded in c, loses its products; the count comes back with one more for each. `stamps` and `out` are the walk's, qj and qi
-// rooms for Q. next[k] goes one further for each column k that has row j.
-pub fn work_column(
-    sizes: &[u32],
-    places: &[u32],
-    l_starts: &[u32],
-    l_rows: &[u32],
-    l_offsets: &[u32],
-    unit_starts: &[u32],
-    d_starts: &[u32],
-    into: &[u32],
-    upper: &[u32],
-    tree: &[u32],
-    j: usize,
-    stamps: &mut [u32],
-    out: &mut [u32],
-    next: &mut [u32],
-    values: &[f64],
-    diag: &[f64],
-    d: &[f64],
-    cache: &[f64],
-    qj: &mut [f64],
-    qi: &mut [f64],
-    c: &mut [f64],
-    count: u64,
-) -> u64
-    requires rows_laid { RowsLaid (tables sizes.now l_starts.now l_rows.now l_offsets.now) (length tree.now) (length values.now) (length c.old) }
-    requires diagonal_laid { DiagonalLaid sizes.now unit_starts.now d_starts.now (length tree.now) (length diag.now) (length d.now) }
-    requires placed { Placed (tables sizes.now l_starts.now l_rows.now l_offsets.now) places.now j × (j < length tree.now) × (length places.now ≡ length tree.now) }
-    requires grown { Grown (tables sizes.now l_starts.now l_rows.now l_offsets.now) into.now upper.now tree.now }
-    requires next { Next (tables sizes.now l_starts.now l_rows.now l_offsets.now) (length tree.now) j next.old }
-    requires stamps_len { (length stamps.old ≡ length tree.now) × (length out.old ≡ length tree.now) × Below j stamps.old }
-    requires in_bounds { (256 ≤ length qj.old) × (256 ≤ length qi.old) × (count ≤ 16777216 * j) }
-    ensures next_2 { Next (tables sizes.now l_starts.now l_rows.now l_offsets.now) (length tree.now) (j + 1) next.new }
-    ensures below { Below (j + 1) stamps.new × (result ≤ 16777216 * (j + 1)) }
-    ensures works { Works (tables sizes.now l_starts.now l_rows.now l_offsets.now) unit_starts.now d_starts.now into.now upper.now (length tree.now) j places.now values.now diag.now d.now cache.now c.old count c.new result }
+// What the columns are worked out in.
+#[derive(Drop)]
+pub struct Scratch<'a> {
+    // The walk's, for the columns that reach the one being worked.
+    pub stamps: &'a mut [u32],
+    pub out: &'a mut [u32],
+    // The place of each column in the row table from which on its rows are still to be worked.
+    pub next: &'a mut [u32],
+    pub room: Working<'a>,
+}
+
+// Column j, loaded in its room, loses its products; the count comes back with one more for each. next[k] goes one further for each column k that
+// has row j.
+pub fn work_column(t: &Tables, f: &Numbers, j: usize, w: &mut Scratch, count: u64) -> u64
+    requires rows_laid { RowsLaid (laid t.now) (length t.now.tree.now) (length f.now.l_values.now) (length w.old.room.c.now) }
+    requires diagonal_laid { DiagonalLaid t.now.sizes.now t.now.unit_starts.now t.now.d_starts.now (length t.now.tree.now) (length f.now.diag.now) (length f.now.d.now) }
+    requires placed { Placed (laid t.now) w.old.room.places.now j × (j < length t.now.tree.now) }
+    requires grown { Grown (laid t.now) t.now.into.now t.now.upper.now t.now.tree.now }
+    requires ready { Ready (laid t.now) (length t.now.tree.now) j w.old }
+    requires counted { count ≤ 16777216 * j }
+    ensures ready_next { Ready (laid t.now) (length t.now.tree.now) (j + 1) w.new }
+    ensures count_after { result ≤ 16777216 * (j + 1) }
+    ensures works { Works (laid t.now) t.now.unit_starts.now t.now.d_starts.now t.now.into.now t.now.upper.now (length t.now.tree.now) j w.old.room.places.now f.now.l_values.now f.now.diag.now f.now.d.now f.now.cache.now w.old.room.c.now count w.new.room.c.now result }
+    ensures places { w.new.room.places.now ≡ w.old.room.places.now }
+    ensures same { SameScratch w.old w.new }
 {
-    let top = walk(into, upper, tree, j as u32, stamps, out);
-    apply_reach(
-        sizes,
-        places,
-        l_starts,
-        l_rows,
-        l_offsets,
-        unit_starts,
-        d_starts,
-        j,
-        &out[top..],
-        next,
-        values,
-        diag,
-        d,
-        cache,
-        qj,
-        qi,
-        c,
-        count,
-    )
+    let stamps = &mut *w.stamps;
+    let out = &mut *w.out;
+    let next = &mut *w.next;
+    let top = walk(t.into, t.upper, t.tree, j as u32, stamps, out);
+    let found = &*out;
+    apply_reach(t, f, j, &found[top..], next, &mut w.room, count)
 }

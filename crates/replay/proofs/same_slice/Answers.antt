@@ -10,26 +10,19 @@ use Rattle.replay.proofs.same_slice.Goals as goal
 pub loop-k-init : goal.loop-k-init
 loop-k-init c = (search rules, search rules, λ j h. absurd (omega arith))
 
--- the float that is compared
-read : (c : goal.Then-not-same) → c.float.result ≡ float_at c.args.w.now c.args.at c.loop-k.k
-read c = c.float.ensures ∙ ap (word_float c.args.w.now) c.on.ensures
-
 pub returns-then-not-same : goal.returns-then-not-same
 returns-then-not-same c =
     record {
       only = λ z. never z;
-      also = λ h. sym (c.if-not-same.true) ∙ c.same.ensures.also (h c.loop-k.k (omega arith) ∙ sym (read c));
+      also = λ h. sym (c.if-not-same.true) ∙ c.same.ensures.also (h c.loop-k.k (omega arith) ∙ sym (c.float.ensures ∙ ap (word_float c.args.w.now) c.on.ensures));
     }
-
-read-2 : (c : goal.Else-not-same) → c.float.result ≡ float_at c.args.w.now c.args.at c.loop-k.k
-read-2 c = c.float.ensures ∙ ap (word_float c.args.w.now) c.on.ensures
 
 pub loop-k-preserved : goal.loop-k-preserved
 loop-k-preserved c =
     let l = c.loop-k in (
       search rules,
       search rules,
-      below_more _ l.k l.invariant.2 (c.same.ensures.only (c.if-not-same.false) ∙ read-2 c),
+      below_more _ l.k l.invariant.2 (c.same.ensures.only (c.if-not-same.false) ∙ c.float.ensures ∙ ap (word_float c.args.w.now) c.on.ensures),
     )
 
 pub returns : goal.returns

@@ -10,16 +10,16 @@ use Rattle.solve.proofs.check_call.Goals as goal
 pub scalars-all-requires : goal.scalars-all-requires
 scalars-all-requires c =
     let x = c.args in
-    let s = solve-sound x.system.now.dims.now x.system.now.starts.now x.system.now.rows.now x.system.now.perm.now x.system.now.late.now x.factor.now.parents.now x.factor.now.l_starts.now x.factor.now.l_rows.now x.factor.now.l_values.now (ap refuses (sym c.in_ok-check_solve.ensures)) in
+    let s = solve-sound x.night.now.dims.now x.night.now.starts.now x.night.now.rows.now x.night.now.perm.now x.night.now.late.now x.factor.now.parents.now x.factor.now.l_starts.now x.factor.now.l_rows.now x.factor.now.l_values.now (ap refuses (sym c.in_ok-check_solve.ensures)) in
     (s.plan.sizes, s.plan.blocks)
 
 pub first_mismatch-requires : goal.first_mismatch-requires
 first_mismatch-requires c =
     let x = c.args in
-    let s = solve-sound x.system.now.dims.now x.system.now.starts.now x.system.now.rows.now x.system.now.perm.now x.system.now.late.now x.factor.now.parents.now x.factor.now.l_starts.now x.factor.now.l_rows.now x.factor.now.l_values.now (ap refuses (sym c.in_ok-check_solve.ensures)) in
-    (s.plan, l-columns x.system.now.dims.now x.system.now.starts.now x.system.now.rows.now x.system.now.perm.now x.system.now.late.now x.factor.now.parents.now x.factor.now.l_starts.now x.factor.now.l_rows.now x.factor.now.l_values.now s)
+    let s = solve-sound x.night.now.dims.now x.night.now.starts.now x.night.now.rows.now x.night.now.perm.now x.night.now.late.now x.factor.now.parents.now x.factor.now.l_starts.now x.factor.now.l_rows.now x.factor.now.l_values.now (ap refuses (sym c.in_ok-check_solve.ensures)) in
+    (s.plan, l-columns x.night.now.dims.now x.night.now.starts.now x.night.now.rows.now x.night.now.perm.now x.night.now.late.now x.factor.now.parents.now x.factor.now.l_starts.now x.factor.now.l_rows.now x.factor.now.l_values.now s)
 
 pub returns-in_err-first_short : goal.returns-in_err-first_short
 returns-in_err-first_short c =
     let x = c.args in
-    call-needs x.system.now.dims.now x.system.now.starts.now x.system.now.rows.now x.system.now.perm.now x.system.now.late.now x.factor.now.order.now x.factor.now.parents.now x.factor.now.l_starts.now x.factor.now.l_rows.now x.factor.now.l_offsets.now x.factor.now.l_values.now (length x.factor.now.diag.now) (length x.factor.now.d.now) (length x.lent.now.x.now) (length x.lent.now.y.now) (length x.lent.now.scalar_perm.now) (length x.lent.now.sizes.now) (length x.lent.now.scalar_starts.now) _ _ c.from_residual-in_err-first_short.ensures c.in_ok-check_solve.ensures c.scalars-all.result c.scalars-all.ensures c.in_err-first_short.ensures.says
+    call-needs x.night.now.dims.now x.night.now.starts.now x.night.now.rows.now x.night.now.perm.now x.night.now.late.now x.factor.now.order.now x.factor.now.parents.now x.factor.now.l_starts.now x.factor.now.l_rows.now x.factor.now.l_offsets.now x.factor.now.l_values.now (length x.factor.now.diag.now) (length x.factor.now.d.now) (length x.lent.now.x.now) (length x.lent.now.y.now) (length x.lent.now.scalar_perm.now) (length x.lent.now.sizes.now) (length x.lent.now.scalar_starts.now) _ _ c.from_residual-in_err-first_short.ensures c.in_ok-check_solve.ensures c.scalars-all.result c.scalars-all.ensures c.in_err-first_short.ensures.says

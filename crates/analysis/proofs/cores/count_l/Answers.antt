@@ -1,5 +1,5 @@
 -- `analysis::cores::count_l` meets its contract: Liu's tree, the counts over it, their totals. Assumes nothing.
-use Rattle.std.specs.Prelude.{◌≡◌, ℕ, length}
+use Rattle.std.specs.Prelude.{◌≡◌, ℕ, length, take}
 use mathlib.Core.Path.{sym, ap, subst, ◌∙◌}
 use native.Mathlib.Omega.{arith}
 use Rattle.elimination_tree.specs.Tree.{linked_up}
@@ -15,16 +15,16 @@ counts-numbers-requires c =
     let n = length c.args.tree.now in
     let e : length tree.new.parent ≡ n = tree.auto.parent in record {
       tree = (
-        subst (λ (m : ℕ). Tree m c.args.starts.now c.args.rows.now tree.new.parent) (sym e) (record { pattern = c.requires.pattern.0; ascends = c.requires.pattern.1; liu = tree.ensures }),
+        subst (λ (m : ℕ). Tree m c.args.starts.now (take c.args.entries c.args.upper.now) tree.new.parent) (sym e) (record { pattern = c.requires.pattern.0; ascends = c.requires.pattern.1; liu = tree.ensures }),
         subst (λ (m : ℕ). Sized m c.args.sizes.now) (sym e) c.requires.pattern.2,
       );
-      stamp_len = (tree.auto.ancestor ∙ c.requires.stamps_len.0 ∙ sym e, c.requires.stamps_len.1 ∙ sym e, c.requires.stamps_len.2 ∙ sym e);
+      stamp_len = (tree.auto.ancestor ∙ c.requires.stamps_len.0 ∙ sym e, c.requires.stamps_len.1 ∙ sym e);
     }
 
 pub add_up-all-requires : goal.add_up-all-requires
 add_up-all-requires c =
     let starts = c.args.starts.now in
-    let rows = c.args.rows.now in
+    let rows = take c.args.entries c.args.upper.now in
     let n = length c.args.tree.now in
     let call = c.counts-numbers in
     let count = call.new.count in
@@ -35,7 +35,7 @@ add_up-all-requires c =
 pub returns : goal.returns
 returns c =
     let starts = c.args.starts.now in
-    let rows = c.args.rows.now in
+    let rows = take c.args.entries c.args.upper.now in
     let n = length c.args.tree.now in
     let tree = c.new_core in
     let call = c.counts-numbers in

@@ -1,5 +1,5 @@
 -- `analysis::cores::store` meets its contract: the counts summed up are the starts, and the filling pass stores the rows. Assumes nothing.
-use Rattle.std.specs.Prelude.{ℕ, ◌+◌, length}
+use Rattle.std.specs.Prelude.{ℕ, ◌+◌, length, take}
 use mathlib.Core.Path.{sym, ap, subst, ◌∙◌}
 use native.Mathlib.Omega.{arith}
 use Rattle.elimination_tree.specs.Tree.{linked_up}
@@ -11,9 +11,9 @@ use Rattle.analysis.proofs.cores.store.Goals as goal
 
 pub sums-requires : goal.sums-requires
 sums-requires c =
-    let starts = c.args.starts.now in
-    let rows = c.args.rows.now in
-    let n = length c.args.tree.now in
+    let starts = c.args.t.now.starts.now in
+    let rows = take c.args.entries c.args.t.now.rows.now in
+    let n = length c.args.t.now.parent.now in
     let count = c.args.count.now in
     let few = c.requires.tree.0.pattern.few in
     let e = c.requires.tree.1 in
@@ -22,9 +22,9 @@ sums-requires c =
 
 pub fill-requires : goal.fill-requires
 fill-requires c =
-    let starts = c.args.starts.now in
-    let rows = c.args.rows.now in
-    let n = length c.args.tree.now in
+    let starts = c.args.t.now.starts.now in
+    let rows = take c.args.entries c.args.t.now.rows.now in
+    let n = length c.args.t.now.parent.now in
     let count = c.args.count.now in
     let few = c.requires.tree.0.pattern.few in
     let e = c.requires.tree.1 in
@@ -38,7 +38,7 @@ fill-requires c =
 
 pub returns : goal.returns
 returns c =
-    let starts = c.args.starts.now in
-    let rows = c.args.rows.now in
+    let starts = c.args.t.now.starts.now in
+    let rows = take c.args.entries c.args.t.now.rows.now in
     let sums = c.sums in
-    record { l_starts_after = starts-made (linked_up starts rows) (length c.args.tree.now) c.args.count.now c.requires.tree.1 sums.new.starts (sums.auto.starts ∙ c.requires.stamps_len.2) sums.ensures.by_index_2; l_rows_after = c.fill.ensures }
+    record { l_starts_after = starts-made (linked_up starts rows) (length c.args.t.now.parent.now) c.args.count.now c.requires.tree.1 sums.new.starts (sums.auto.starts ∙ c.requires.stamps_len.2) sums.ensures.by_index_2; l_rows_after = c.fill.ensures }

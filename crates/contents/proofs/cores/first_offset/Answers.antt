@@ -45,14 +45,8 @@ column-below c =
 pub offset_bounds-dims-j : goal.offset_bounds-dims-j
 offset_bounds-dims-j c = omega (arith, column-below c)
 
-column-below-2 : (c : goal.After-shared_slice_known-in-loop-p-3-1-unread) → c.wide-j.result < length c.args.dims.now
-column-below-2 c =
-    let t = c.requires.0 in
-    let p = c.loop-p.p in
-    omega (arith, c.wide-j.ensures, t.sorted.below p (omega (arith, t.as_offsets)))
-
 pub bounds-dims-j : goal.bounds-dims-j
-bounds-dims-j c = column-below-2 c
+bounds-dims-j c = let t = c.requires.0 in omega (arith, c.wide-j.ensures, t.sorted.below c.loop-p.p (omega (arith, t.as_offsets)))
 
 pub block_area-sum-requires : goal.block_area-sum-requires
 block_area-sum-requires c =
@@ -60,9 +54,6 @@ block_area-sum-requires c =
     let p = c.loop-p.p in
     let in' : p < length c.args.rows.now = omega (arith, t.as_offsets, t.as_rows) in
     (t.sizes, omega (arith, c.wide-in-loop-p.ensures, t.sizes.small c.wide-j.result), in', t.below p in')
-
-small-2 : (c : goal.After-block_area-sum) → c.loop-p.sum ≤ 4294967296
-small-2 c = let t = c.requires.0 in omega (arith, c.loop-p.invariant.2, t.as_offsets, t.few)
 
 -- the area that is added
 added : (c : goal.After-block_area-sum) → let x = c.args in c.block_area-sum.result ≡ area_at x.dims.now (starts_from x.columns.now (length x.dims.now)) x.rows.now c.loop-p.p
@@ -77,7 +68,7 @@ bounded : (c : goal.After-block_area-sum) → c.block_area-sum.result ≤ 256
 bounded c = let t = c.requires.0 in omega (arith, added c, area_small t c.loop-p.p (omega (arith, t.as_offsets)))
 
 pub overflow_add-sum : goal.overflow_add-sum
-overflow_add-sum c = omega (arith, bounded c, small-2 c)
+overflow_add-sum c = let t = c.requires.0 in omega (arith, bounded c, c.loop-p.invariant.2, t.as_offsets, t.few)
 
 pub loop-p-preserved : goal.loop-p-preserved
 loop-p-preserved c =

@@ -7,19 +7,16 @@ use Rattle.digits.proofs.Laws.{length_digits}
 use Rattle.digits.proofs.cores.put_decimal.Goals as goal
 
 -- how many digits there are
-count : (c : goal.After-spell-arg-1) → c.places-k.result ≡ length (decimal c.args.n)
-count c = c.places-k.ensures.0 ∙ sym (length_digits 10 (places c.args.n) c.args.n)
+counted : (n : ℕ) {k : ℕ} → k ≡ places n → k ≡ length (decimal n)
+counted n e = e ∙ sym (length_digits 10 (places n) n)
 
 pub spell-requires : goal.spell-requires
-spell-requires c = (omega arith, omega arith, omega (arith, count c, c.requires))
-
-count-2 : (c : goal.After-slice_known-2-1) → c.places-k.result ≡ length (decimal c.args.n)
-count-2 c = c.places-k.ensures.0 ∙ sym (length_digits 10 (places c.args.n) c.args.n)
+spell-requires c = (omega arith, omega arith, omega (arith, counted c.args.n c.places-k.ensures.0, c.requires))
 
 pub overflow_add-result : goal.overflow_add-result
-overflow_add-result c = omega (arith, count-2 c, c.requires)
+overflow_add-result c = omega (arith, counted c.args.n c.places-k.ensures.0, c.requires)
 
 pub returns : goal.returns
 returns c =
     let x = c.args in
-    record { next = ap (λ (k : ℕ). x.at + k) (count-2 c); text' = c.spell.ensures ∙ ap (λ (k : ℕ). written x.at (digits 10 k x.n) x.out.now) c.places-k.ensures.0 }
+    record { next = ap (λ (k : ℕ). x.at + k) (counted x.n c.places-k.ensures.0); text' = c.spell.ensures ∙ ap (λ (k : ℕ). written x.at (digits 10 k x.n) x.out.now) c.places-k.ensures.0 }

@@ -1,137 +1,112 @@
 -- `factor_column::cores::factor_column` meets its contract. Assumes nothing.
-use Rattle.std.specs.Prelude.{ℕ, ◌+◌, ◌<◌, length}
+use Rattle.std.specs.Prelude.{ℕ, ◌+◌, length, Result}
 use mathlib.Core.Path.{refl, sym, subst, ◌∙◌}
 use native.Mathlib.Omega.{arith}
-use borrow.Author.Rules.{rules}
-use Rattle.layout.specs.Layout.{Tables, tables}
-use Rattle.work_column.specs.Work.{Next, Works}
-use Rattle.std.specs.Prelude.{Result}
 use Rattle.block_diag_ldlt.specs.declared.cores.BlockError.{BlockError}
-use Rattle.factor_column.specs.Turn.{given, Counted, Turns}
-use Rattle.factor_column.proofs.TurnLaws.{laid-again, laid-alone, diagonal-again, placed_by, counts-so, turns}
+use Rattle.layout.specs.Layout.{laid}
+use Rattle.work_column.specs.Work.{Next, Works}
+use Rattle.factor_column.specs.Turn.{given_of, Turns}
+use Rattle.factor_column.proofs.TurnLaws.{laid-again, placed_by, turns}
 use Rattle.factor_column.proofs.KeptLaws.{fits-laid}
 use Rattle.factor_column.proofs.cores.factor_column.Goals as goal
 
--- L's tables
-abbrev the-tables : goal.After-load_column-arg-2-1 → Tables
-the-tables start = tables start.args.sizes.now start.args.l_starts.now start.args.l_rows.now start.args.l_offsets.now
-
-pub load_column-requires : goal.load_column-requires
-load_column-requires c =
-    record { source = c.requires.source; rows_laid = laid-alone (the-tables c) c.requires.rows_laid; j_in_bounds = (c.requires.next.1, c.requires.next.2, c.requires.in_bounds.2) }
-
-abbrev the-tables-2 : goal.After-work_column-arg-6-1 → Tables
-the-tables-2 start = tables start.args.sizes.now start.args.l_starts.now start.args.l_rows.now start.args.l_offsets.now
-
-pub work_column-n-requires : goal.work_column-n-requires
-work_column-n-requires c =
+pub work_column-n-requires-clause-placed : goal.work_column-n-requires-clause-placed
+work_column-n-requires-clause-placed c =
+    let x = c.args in
+    let a = x.a.now in
     let load = c.load_column in
-    let t = the-tables-2 c in
-    let n = c.requires.grown.1 in record {
-      rows_laid = laid-again t (sym n) refl (sym load.auto.c) c.requires.rows_laid;
-      diagonal_laid = diagonal-again c.args.sizes.now c.args.unit_starts.now c.args.d_starts.now (sym n) refl refl c.requires.diagonal_laid;
-      placed = (
-        placed_by t c.args.dims.now c.args.starts.now c.args.rows.now c.args.values.now c.args.order.now c.args.j load.new.places load.new.c load.ensures,
-        subst (λ (m : ℕ). c.args.j < m) (sym n) c.requires.next.1,
-        load.auto.places ∙ (c.requires.next.2 ∙ sym n),
-      );
-      grown = c.requires.grown.0;
-      next = subst (λ (m : ℕ). Next t m c.args.j c.args.next.now) (sym n) c.requires.next.0;
-      stamps_len = (c.requires.stamps_len.0 ∙ sym n, c.requires.stamps_len.1 ∙ sym n, c.requires.stamps_len.2);
-      in_bounds = (c.requires.in_bounds.0, c.requires.in_bounds.1, c.requires.in_bounds.3);
+    let n = c.requires.grown.1 in (
+      placed_by (laid x.t.now) a.dims.now a.starts.now a.rows.now a.values.now a.order.now x.j load.new.places load.new.c load.ensures,
+      omega arith,
+    )
+
+pub work_column-n-requires-clause-ready : goal.work_column-n-requires-clause-ready
+work_column-n-requires-clause-ready c =
+    let x = c.args in
+    let ready = c.requires.ready in
+    let n = c.requires.grown.1 in
+    record {
+      next = subst (λ (m : ℕ). Next (laid x.t.now) m x.j x.w.now.next.now) (sym n) ready.next;
+      stamps = (ready.stamps.0 ∙ sym n, ready.stamps.1);
+      out = ready.out ∙ sym n;
+      places = c.load_column.auto.places ∙ (ready.places ∙ sym n);
+      rooms = ready.rooms;
     }
 
-abbrev the-tables-3 : goal.After-finish_column-arg-3-1 → Tables
-the-tables-3 start = tables start.args.sizes.now start.args.l_starts.now start.args.l_rows.now start.args.l_offsets.now
-
-pub finish_column-r-requires : goal.finish_column-r-requires
-finish_column-r-requires c =
+pub finish_column-r-requires-clause-placed : goal.finish_column-r-requires-clause-placed
+finish_column-r-requires-clause-placed c =
+    let x = c.args in
+    let a = x.a.now in
     let load = c.load_column in
-    let work = c.work_column-n in
-    let t = the-tables-3 c in
-    let n = c.requires.rows_laid.count.0 in record {
-      rows_laid = laid-again t (sym n) refl (sym (work.auto.c ∙ load.auto.c)) c.requires.rows_laid;
-      diagonal_laid = diagonal-again c.args.sizes.now c.args.unit_starts.now c.args.d_starts.now (sym n) refl refl c.requires.diagonal_laid;
-      placed = (
-        placed_by t c.args.dims.now c.args.starts.now c.args.rows.now c.args.values.now c.args.order.now c.args.j load.new.places load.new.c load.ensures,
-        subst (λ (m : ℕ). c.args.j < m) (sym n) c.requires.next.1,
-        load.auto.places ∙ (c.requires.next.2 ∙ sym n),
-      );
+    let n = c.requires.rows_laid.count.0 in
+    rw c.work_column-n.ensures.places (
+      placed_by (laid x.t.now) a.dims.now a.starts.now a.rows.now a.values.now a.order.now x.j load.new.places load.new.c load.ensures,
+      omega arith,
+      load.auto.places ∙ (c.requires.ready.places ∙ sym n),
+    )
+
+pub keep_column-requires-clause-j_nonzero : goal.keep_column-requires-clause-j_nonzero
+keep_column-requires-clause-j_nonzero c =
+    let x = c.args in
+    let inside = c.requires.in_bounds.0 in
+    let size = c.requires.rows_laid.size x.j inside in
+    let unit = c.requires.diagonal_laid.unit x.j (length x.a.now.dims.now) inside (omega arith) in
+    (size.0, size.1, omega (arith, c.requires.diagonal_laid.units, c.finish_column-r.ensures.same.diag.1))
+
+pub keep_column-requires-clause-keep_fit : goal.keep_column-requires-clause-keep_fit
+keep_column-requires-clause-keep_fit c =
+    let x = c.args in
+    let t = laid x.t.now in
+    fits-laid t (laid-again t refl (sym c.finish_column-r.ensures.same.l_values.1) refl c.requires.rows_laid) x.j c.requires.in_bounds.0
+
+pub returns-clause-ready_next : goal.returns-clause-ready_next
+returns-clause-ready_next c =
+    let x = c.args in
+    let w = c.work_column-n.new.w in
+    let ready = c.work_column-n.ensures.ready_next in
+    let n = c.requires.grown.1 in
+    record {
+      next = subst (λ (m : ℕ). Next (laid x.t.now) m (x.j + 1) w.next.now) n ready.next;
+      stamps = (ready.stamps.0 ∙ n, ready.stamps.1);
+      out = ready.out ∙ n;
+      places = ready.places ∙ n;
+      rooms = ready.rooms;
     }
 
-abbrev the-tables-4 : goal.After-keep_column-arg-1 → Tables
-the-tables-4 start = tables start.args.sizes.now start.args.l_starts.now start.args.l_rows.now start.args.l_offsets.now
-
-pub keep_column-requires : goal.keep_column-requires
-keep_column-requires c =
-    let finish = c.finish_column-r in
-    let j = c.args.j in
-    let n = c.requires.next.1 in
-    let rows = c.requires.rows_laid in
-    let blocks = c.requires.diagonal_laid in record { j_in_bounds = (omega (arith, rows.count.0), omega (arith, rows.count.1), omega (arith, blocks.count.1)); j_nonzero = ((rows.size j n).0, (rows.size j n).1, omega (arith, blocks.unit j (length c.args.dims.now) n (omega arith), blocks.units, finish.auto.diag)); keep_fit = fits-laid (the-tables-4 c) (laid-again (the-tables-4 c) refl (sym finish.auto.values) refl rows) j n }
-
-pub turned_by-requires : goal.turned_by-requires
-turned_by-requires c = search rules
-
-pub shape_of-stamps : goal.shape_of-stamps
-shape_of-stamps c = c.work_column-n.auto.stamps
-
-pub shape_of-out : goal.shape_of-out
-shape_of-out c = c.work_column-n.auto.out
-
-pub shape_of-next : goal.shape_of-next
-shape_of-next c = search rules
-
-pub shape_of-places : goal.shape_of-places
-shape_of-places c = c.load_column.auto.places
-
-pub shape_of-qj : goal.shape_of-qj
-shape_of-qj c = search rules
-
-pub shape_of-qi : goal.shape_of-qi
-shape_of-qi c = search rules
-
-pub shape_of-c : goal.shape_of-c
-shape_of-c c = c.work_column-n.auto.c ∙ c.load_column.auto.c
-
-pub shape_of-l_values : goal.shape_of-l_values
-shape_of-l_values c = search rules
-
-pub shape_of-diag : goal.shape_of-diag
-shape_of-diag c = search rules
-
-pub shape_of-d : goal.shape_of-d
-shape_of-d c = search rules
-
-pub shape_of-cache : goal.shape_of-cache
-shape_of-cache c = search rules
-
-abbrev the-tables-5 : goal.After-turned_by → Tables
-the-tables-5 start = tables start.args.sizes.now start.args.l_starts.now start.args.l_rows.now start.args.l_offsets.now
-
-pub returns : goal.returns
-returns c =
+pub returns-clause-turns : goal.returns-clause-turns
+returns-clause-turns c =
+    let x = c.args in
     let load = c.load_column in
     let work = c.work_column-n in
     let finish = c.finish_column-r in
     let keep = c.keep_column in
-    let t = the-tables-5 c in
-    let n = c.requires.grown.1 in
-    let j = c.args.j in
-    let g = given c.args.dims.now c.args.starts.now c.args.rows.now c.args.values.now c.args.order.now c.args.tol in
-    let units = c.args.unit_starts.now in
-    let pivots = c.args.d_starts.now in
-    let into = c.args.into.now in
-    let upper = c.args.upper.now in
-    let values = c.args.l_values.now in
-    let diag = c.args.diag.now in
-    let d = c.args.d.now in
-    let cache = c.args.cache.now in
-    let works : Works t units pivots into upper (length c.args.dims.now) j load.new.places values diag d cache load.new.c c.args.count work.new.c work.result =
-    subst (λ (m : ℕ). Works t units pivots into upper m j load.new.places values diag d cache load.new.c c.args.count work.new.c work.result) n work.ensures.works in record {
-      next_2 = (subst (λ (m : ℕ). Next t m (j + 1) work.new.next) n work.ensures.next_2, work.ensures.below.0);
-      counted = subst (Counted j) (sym c.turned_by.ensures) (counts-so j work.result finish.result work.ensures.below.1);
-      turns = subst (λ (r : Result ℕ BlockError). Turns t units pivots into upper g j values diag d cache c.args.count r finish.new.values finish.new.diag finish.new.d keep.new.cache) (sym c.turned_by.ensures)
-          (turns t units pivots into upper g j c.requires.next.1 c.requires.source.by_sizes load.new.places values diag d cache load.new.c work.new.c c.args.count work.result
-          (λ a served. load.ensures a served.fed) works finish.result finish.new.values finish.new.diag finish.new.d finish.ensures c.requires.rows_laid keep.new.cache keep.ensures);
+    let us = x.t.now.unit_starts.now in
+    let ds = x.t.now.d_starts.now in
+    let into = x.t.now.into.now in
+    let upper = x.t.now.upper.now in
+    let t = laid x.t.now in
+    let g = given_of x.a.now x.tol in
+    let f = x.f.now in
+    let f' = finish.new.f in
+    let works : Works t us ds into upper (length g.dims) x.j load.new.places f.l_values.now f.diag.now f.d.now f.cache.now load.new.c x.count work.new.w.room.c.now work.result =
+    subst (λ (m : ℕ). Works t us ds into upper m x.j load.new.places f.l_values.now f.diag.now f.d.now f.cache.now load.new.c x.count work.new.w.room.c.now work.result) c.requires.grown.1 work.ensures.works in
+    subst (λ (r : Result ℕ BlockError). Turns t us ds into upper g x.j f.l_values.now f.diag.now f.d.now f.cache.now x.count r f'.l_values.now f'.diag.now f'.d.now keep.new.cache) (sym c.turned_by.ensures)
+    (turns t us ds into upper g x.j c.requires.in_bounds.0 c.requires.source.by_sizes load.new.places f.l_values.now f.diag.now f.d.now f.cache.now load.new.c work.new.w.room.c.now x.count work.result
+    (λ a served. load.ensures a served.fed) works finish.result f'.l_values.now f'.diag.now f'.d.now (rw work.ensures.places at finish.ensures.finishes) c.requires.rows_laid keep.new.cache
+    (rw finish.ensures.cache at keep.ensures))
+
+pub returns-clause-scratch : goal.returns-clause-scratch
+returns-clause-scratch c =
+    let load = c.load_column.auto in
+    let same = c.work_column-n.ensures.same in
+    record {
+      stamps = same.stamps;
+      out = same.out;
+      next = same.next;
+      room = record {
+        places = (same.room.places.0, same.room.places.1 ∙ load.places);
+        qj = same.room.qj;
+        qi = same.room.qi;
+        c = (same.room.c.0, same.room.c.1 ∙ load.c);
+      };
     }

@@ -1,15 +1,19 @@
--- `factor_columns::cores::factor_columns` meets its contract. Assumes nothing.
-use Rattle.std.specs.Prelude.{◌≡◌, ◌*◌, ◌≤◌, length}
-use Rattle.symbolic.specs.Columns.{Below}
+-- `factor_columns::cores::factor_columns` meets its contract: the columns before j are done. Assumes nothing.
+use Rattle.std.specs.Prelude.{◌*◌, ◌≤◌, length}
 use Rattle.machine.specs.System.{System}
-use Rattle.layout.specs.Layout.{tables}
-use Rattle.work_column.specs.Work.{Next}
-use Rattle.factor_column.specs.Turn.{given, Served, UpTo}
+use Rattle.layout.specs.Layout.{laid}
+use Rattle.finish_column.specs.Finish.{SameNumbers}
+use Rattle.work_column.specs.Work.{Ready, SameScratch}
+use Rattle.factor_column.specs.Turn.{given_of, Served, UpTo}
 use Rattle.factor_columns.proofs.cores.factor_columns.Given as goal
 
 abbrev pub invariant-loop-j : goal.invariant-loop-j
 invariant-loop-j l =
-    ((l.n ≡ length l.dims) × (l.j ≤ l.n))
-    × ((length l.stamps ≡ length l.initial.stamps) × (length l.out ≡ length l.initial.out) × (length l.next ≡ length l.initial.next) × (length l.places ≡ length l.initial.places) × (length l.qj ≡ length l.initial.qj) × (length l.qi ≡ length l.initial.qi) × (length l.c ≡ length l.initial.c) × (length l.l_values ≡ length l.initial.l_values) × (length l.diag ≡ length l.initial.diag) × (length l.d ≡ length l.initial.d) × (length l.cache ≡ length l.initial.cache))
-    × (Next (tables l.sizes l.l_starts l.l_rows l.l_offsets) (length l.dims) l.j l.next × Below l.j l.stamps × (l.count ≤ 16777216 * l.j))
-    × ((a : System) → Served (tables l.sizes l.l_starts l.l_rows l.l_offsets) l.into l.upper (given l.dims l.starts l.rows l.values l.order l.tol) a → UpTo (tables l.sizes l.l_starts l.l_rows l.l_offsets) l.unit_starts l.d_starts a l.j l.l_values l.diag l.d l.cache l.count)
+    record {
+      inside : l.j ≤ length l.a.dims.now;
+      ready : Ready (laid l.t) (length l.a.dims.now) l.j l.w;
+      few : l.count ≤ 16777216 * l.j;
+      scratch : SameScratch l.initial.w l.w;
+      numbers : SameNumbers l.initial.f l.f;
+      done : (a : System) → Served (laid l.t) l.t.into.now l.t.upper.now (given_of l.a l.tol) a → UpTo (laid l.t) l.t.unit_starts.now l.t.d_starts.now a l.j l.f.l_values.now l.f.diag.now l.f.d.now l.f.cache.now l.count;
+    }

@@ -1,4 +1,6 @@
 -- `factor_order::cores::order_with` meets its contract. Assumes nothing.
+use mathlib.Core.Path.{◌∙◌}
+use Rattle.factor_order.proofs.SameLaws.{pointwise_same}
 use Rattle.factor_order.proofs.cores.order_with.Goals as goal
 
 pub move_late-requires : goal.move_late-requires
@@ -7,4 +9,4 @@ move_late-requires c =
     rw s.2 (s.0, s.1)
 
 pub returns : goal.returns
-returns c = rw c.move_late.ensures at c.same.ensures
+returns c = rw (← c.move_late.ensures) (c.eq.ensures ∙ pointwise_same c.args.order.now c.move_late.new.order)

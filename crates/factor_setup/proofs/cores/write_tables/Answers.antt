@@ -1,103 +1,66 @@
 -- `factor_setup::cores::write_tables` meets its contract. Assumes nothing.
-use Rattle.std.specs.Prelude.{ℕ, ◌+◌, []}
+use Rattle.std.specs.Prelude.{◌≡◌, ◌+◌, length}
 use mathlib.Core.Path.{sym, ap, subst, ◌∙◌}
 use native.Mathlib.Omega.{arith}
-use borrow.Author.Rules.{rules}
-use lib.Ieee.{nan}
-use Rattle.graph.specs.Order.{Permutes}
-use Rattle.machine.specs.System.{System}
-use Rattle.factor_setup.specs.Exact.{system}
-use Rattle.factor_setup.proofs.SetupLaws.{tree-long, count_long, store_asks, starts-told, rows_told, parents-told, laid, tabled}
+use lib.Seq.{take_at}
+use Rattle.tables.specs.Sound.{Sizes}
+use Rattle.order.specs.Order.{sizes_of}
+use Rattle.scalars.specs.Scalars.{scalar_starts}
+use Rattle.layout.specs.Layout.{unit_starts_of}
+use Rattle.factor_tables.proofs.TableLaws.{sizes-sound}
+use Rattle.factor_setup.specs.Exact.{handed, stored}
+use Rattle.factor_setup.proofs.SetupLaws.{analyzed, store_asks, starts-told, rows_told, laid, tabled}
 use Rattle.factor_setup.proofs.cores.write_tables.Goals as goal
 
--- the system that the night's tables are of
-abbrev the-system : goal.After-store-arg-5-1 → System
-the-system start = system start.args.dims.now start.args.starts.now start.args.rows.now [] start.args.perm.now start.args.late.now nan
+pub store-requires-clause-tree : goal.store-requires-clause-tree
+store-requires-clause-tree c =
+    let room = c.requires.room in
+    (store_asks (handed c.args.s.now) c.requires.plan_sound.blocks (analyzed _ c.requires.ready) c.args.p.now.stamps.now c.args.p.now.inverse.now c.args.o.now.l_starts.now c.split_at_mut-l_rows.result.0.now
+    room.plan.stamps room.plan.inverse room.l_starts (c.split_at_mut-l_rows.ensures.front_len ∙ c.requires.ready.analyzed.stored)).0
 
-pub store-requires : goal.store-requires
-store-requires c =
-    let room = c.requires.table_room in let both = store_asks (the-system c) c.requires.plan_sound.blocks c.requires.analyzed c.args.stamps.now c.args.inverse.now c.args.l_starts.now c.args.l_rows.now room.of_stamps room.of_inverse room.of_starts room.of_rows in record { tree = both.0; stamps_len = both.1.0; l_rows_len = both.1.1 }
-
-pub move_late-requires : goal.move_late-requires
-move_late-requires c =
-    let n = c.requires.table_room.of_order in
-    (subst (λ (m : ℕ). Permutes m c.args.perm.now) (sym n) c.requires.plan_sound.permutes, omega (arith, c.requires.plan_sound.flags, n))
-
-abbrev the-system-2 : goal.After-copy-arg-1 → System
-the-system-2 start = system start.args.dims.now start.args.starts.now start.args.rows.now [] start.args.perm.now start.args.late.now nan
-
-pub copy-requires : goal.copy-requires
-copy-requires c =
-    omega (arith, c.requires.table_room.of_parents, tree-long (the-system-2 c) c.requires.plan_sound.blocks c.requires.analyzed)
-
-abbrev the-system-3 : goal.After-lay_out-arg-7-1 → System
-the-system-3 start = system start.args.dims.now start.args.starts.now start.args.rows.now [] start.args.perm.now start.args.late.now nan
+pub store-requires-clause-l_rows_len : goal.store-requires-clause-l_rows_len
+store-requires-clause-l_rows_len c =
+    let room = c.requires.room in
+    (store_asks (handed c.args.s.now) c.requires.plan_sound.blocks (analyzed _ c.requires.ready) c.args.p.now.stamps.now c.args.p.now.inverse.now c.args.o.now.l_starts.now c.split_at_mut-l_rows.result.0.now
+    room.plan.stamps room.plan.inverse room.l_starts (c.split_at_mut-l_rows.ensures.front_len ∙ c.requires.ready.analyzed.stored)).1.1
 
 -- L's tables and the order are now those of the system
-pub lay_out-requires : goal.lay_out-requires
-lay_out-requires c =
+pub lay_rows-requires-clause-layable : goal.lay_rows-requires-clause-layable
+lay_rows-requires-clause-layable c =
+    let a = handed c.args.s.now in
+    let few = c.requires.plan_sound.blocks in
     let store = c.store in
-    let move-late = c.move_late in
-    let room = c.requires.table_room in
-    let by_starts = starts-told (the-system-3 c) c.requires.plan_sound.blocks c.requires.analyzed store.new.l_starts store.ensures.l_starts_after in
-    let by_rows = rows_told (the-system-3 c) c.requires.plan_sound.blocks c.requires.analyzed store.new.l_rows store.ensures.l_rows_after in record { layable = laid (the-system-3 c) move-late.new.order store.new.l_starts store.new.l_rows move-late.ensures by_starts by_rows c.requires.plan_sound; sizes_len = (room.of_sizes, store.auto.count ∙ count_long (the-system-3 c) c.requires.plan_sound.blocks c.requires.analyzed, room.of_places); l_offsets_len = (room.of_offsets ∙ sym (ap (λ (m : ℕ). m + 1) (store.auto.l_rows ∙ room.of_rows)), room.of_bodies); unit_starts_len = (room.of_units, room.of_pivots) }
+    rw c.night-night.ensures
+    (laid a c.move_late.new.order store.new.l_starts store.new.l_rows c.move_late.ensures (starts-told a few (analyzed a c.requires.ready) store.new.l_starts store.ensures.l_starts_after)
+    (rows_told a few (analyzed a c.requires.ready) store.new.l_rows store.ensures.l_rows_after) c.requires.plan_sound)
 
--- nothing is asked of the last step, and every length stays
-pub fill-requires : goal.fill-requires
-fill-requires c = search rules
-
-pub shape_of-order : goal.shape_of-order
-shape_of-order c = search rules
-
-pub shape_of-parents : goal.shape_of-parents
-shape_of-parents c = search rules
-
-pub shape_of-l_starts : goal.shape_of-l_starts
-shape_of-l_starts c = c.store.auto.l_starts
-
-pub shape_of-l_rows : goal.shape_of-l_rows
-shape_of-l_rows c = c.store.auto.l_rows
-
-pub shape_of-l_offsets : goal.shape_of-l_offsets
-shape_of-l_offsets c = search rules
-
-pub shape_of-inverse : goal.shape_of-inverse
-shape_of-inverse c = c.store.auto.out
-
-pub shape_of-sizes : goal.shape_of-sizes
-shape_of-sizes c = search rules
-
-pub shape_of-count : goal.shape_of-count
-shape_of-count c = c.lay_out.auto.next ∙ c.store.auto.count
-
-pub shape_of-stamps : goal.shape_of-stamps
-shape_of-stamps c = c.fill.auto.s ∙ c.store.auto.stamps
-
-pub shape_of-bodies : goal.shape_of-bodies
-shape_of-bodies c = search rules
-
-pub shape_of-unit_starts : goal.shape_of-unit_starts
-shape_of-unit_starts c = search rules
-
-pub shape_of-d_starts : goal.shape_of-d_starts
-shape_of-d_starts c = search rules
-
-pub shape_of-places : goal.shape_of-places
-shape_of-places c = search rules
-
-abbrev the-system-4 : goal.After-slice_known-28-1 → System
-the-system-4 start = system start.args.dims.now start.args.starts.now start.args.rows.now [] start.args.perm.now start.args.late.now nan
-
--- the tables, and the tree
-pub returns : goal.returns
-returns c =
+pub lay_diagonal-requires-clause-sizes : goal.lay_diagonal-requires-clause-sizes
+lay_diagonal-requires-clause-sizes c =
+    let a = handed c.args.s.now in
+    let order = c.move_late.new.order in
+    let few = c.requires.plan_sound.blocks in
     let store = c.store in
-    let move-late = c.move_late in
-    let lay-out = c.lay_out in
-    let room = c.requires.table_room in
-    let by_starts = starts-told (the-system-4 c) c.requires.plan_sound.blocks c.requires.analyzed store.new.l_starts store.ensures.l_starts_after in
-    let by_rows = rows_told (the-system-4 c) c.requires.plan_sound.blocks c.requires.analyzed store.new.l_rows store.ensures.l_rows_after in record {
-      tabled = tabled (the-system-4 c) move-late.new.order store.new.l_starts store.new.l_rows move-late.ensures by_starts by_rows _ _ _ _ _ _ _ _ _ (store.auto.count ∙ count_long (the-system-4 c) c.requires.plan_sound.blocks c.requires.analyzed) (store.auto.stamps ∙ room.of_stamps)
-          lay-out.ensures.sizes_after lay-out.ensures.l_offsets_after lay-out.ensures.bodies_after lay-out.ensures.unit_starts_after lay-out.ensures.d_starts_after lay-out.ensures.next_after c.fill.ensures;
-      parents_after = parents-told (the-system-4 c) c.requires.plan_sound.blocks c.requires.analyzed _ _ room.of_parents c.copy.ensures;
-    }
+    let g = laid a order store.new.l_starts store.new.l_rows c.move_late.ensures (starts-told a few (analyzed a c.requires.ready) store.new.l_starts store.ensures.l_starts_after)
+    (rows_told a few (analyzed a c.requires.ready) store.new.l_rows store.ensures.l_rows_after) c.requires.plan_sound in
+    let e : c.lay_rows.new.sizes ≡ sizes_of c.args.s.now.dims.now order = rw c.night-night.ensures at c.lay_rows.ensures.sizes_after in
+    let long : length c.lay_rows.new.sizes ≡ length c.args.s.now.dims.now = c.lay_rows.auto.sizes ∙ c.requires.room.plan.sizes in
+    (subst Sizes (sym e) (sizes-sound c.args.s.now.dims.now order g.permutes g.measured.sizes), omega (arith, long, few), c.requires.room.places ∙ sym long)
+
+-- the tables, each exactly in the first places of its list
+pub returns-clause-tabled : goal.returns-clause-tabled
+returns-clause-tabled c =
+    let a = handed c.args.s.now in
+    let few = c.requires.plan_sound.blocks in
+    let store = c.store in
+    let room = c.requires.room in
+    let ready = c.requires.ready in
+    let rows = c.lay_rows in
+    let diagonal = c.lay_diagonal.ensures in
+    let e : rows.new.sizes ≡ sizes_of a.dims c.move_late.new.order = rw c.night-night.ensures at rows.ensures.sizes_after in
+    let s = starts-told a few (analyzed a ready) store.new.l_starts store.ensures.l_starts_after in
+    let r = rows_told a few (analyzed a ready) store.new.l_rows store.ensures.l_rows_after in
+    let l : length store.new.l_rows ≡ stored a = store.auto.l_rows ∙ c.split_at_mut-l_rows.ensures.front_len ∙ ready.analyzed.stored in
+    let f : length rows.new.l_offsets ≡ stored a + 1 = rows.auto.l_offsets ∙ c.split_at_mut-l_offsets.ensures.front_len ∙ ap (λ m. m + 1) ready.analyzed.stored in
+    rw (take_at store.new.l_rows c.split_at_mut-l_rows.result.1.now (stored a) l, take_at rows.new.l_offsets c.split_at_mut-l_offsets.result.1.now (stored a + 1) f)
+    (tabled a c.move_late.new.order store.new.l_starts store.new.l_rows c.move_late.ensures s r _ _ _ _ _ _ _ _ _ (store.auto.count ∙ room.plan.count) (store.auto.stamps ∙ room.plan.stamps)
+    e (rw c.night-night.ensures at rows.ensures.l_offsets_after) (rw c.night-night.ensures at rows.ensures.bodies_after) (diagonal.unit_starts_after ∙ ap unit_starts_of e) (diagonal.d_starts_after ∙ ap scalar_starts e) c.copy-2.ensures c.fill.ensures)

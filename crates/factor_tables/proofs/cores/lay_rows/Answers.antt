@@ -9,39 +9,18 @@ use Rattle.scalars.specs.Bodies.{offsets}
 use Rattle.factor_tables.proofs.TableLaws.{order-inside, l-measured}
 use Rattle.factor_tables.proofs.cores.lay_rows.Goals as goal
 
-copied : (c : goal.After-sizes-arg-1) → c.copy.new.to ≡ c.args.order.now
-copied c =
-    c.copy.ensures ∙ take_all (length c.args.sizes.now) c.args.order.now (omega (arith, c.requires.layable.permutes.entries, c.requires.sizes_len.0))
-
 pub sizes-requires : goal.sizes-requires
 sizes-requires c =
-    subst (λ (l : List ℕ). (k : ℕ) → k < length l → get_or l k 0 < length c.args.dims.now) (sym (copied c)) (order-inside c.args.dims.now c.args.order.now c.requires.layable.permutes)
-
-copied-2 : (c : goal.After-make_offsets-arg-1) → c.copy.new.to ≡ c.args.order.now
-copied-2 c =
-    c.copy.ensures ∙ take_all (length c.args.sizes.now) c.args.order.now (omega (arith, c.requires.layable.permutes.entries, c.requires.sizes_len.0))
-
-sized : (c : goal.After-make_offsets-arg-1) → c.sizes.new.order ≡ sizes_of c.args.dims.now c.args.order.now
-sized c = c.sizes.ensures ∙ ap (sizes_of c.args.dims.now) (copied-2 c)
+    subst (λ (l : List ℕ). (k : ℕ) → k < length l → get_or l k 0 < length c.args.a.now.dims.now) (sym (c.copy.ensures ∙ take_all (length c.args.sizes.now) c.args.order.now (omega (arith, c.requires.layable.permutes.entries, c.requires.sizes_len)))) (order-inside c.args.a.now.dims.now c.args.order.now c.requires.layable.permutes)
 
 pub make_offsets-requires : goal.make_offsets-requires
 make_offsets-requires c = (
-  subst (λ (l : List ℕ). Measured l c.args.l_starts.now c.args.l_rows.now) (sym (sized c)) (l-measured _ _ _ _ _ _ c.requires.layable),
+  subst (λ (l : List ℕ). Measured l c.args.l_starts.now c.args.l_rows.now) (sym (c.sizes.ensures ∙ ap (sizes_of c.args.a.now.dims.now) (c.copy.ensures ∙ take_all (length c.args.sizes.now) c.args.order.now (omega (arith, c.requires.layable.permutes.entries, c.requires.sizes_len))))) (l-measured _ _ _ _ _ _ c.requires.layable),
   c.requires.layable.filled,
   c.requires.l_offsets_len.0,
 )
 
-pub copy-requires-2 : goal.copy-requires-2
-copy-requires-2 c =
-    omega (arith, c.requires.sizes_len.1, c.requires.layable.columns.ordered.entries)
-
-copied-3 : (c : goal.After-slice_known-9-1) → c.copy.new.to ≡ c.args.order.now
-copied-3 c =
-    c.copy.ensures ∙ take_all (length c.args.sizes.now) c.args.order.now (omega (arith, c.requires.layable.permutes.entries, c.requires.sizes_len.0))
-
-sized-2 : (c : goal.After-slice_known-9-1) → c.sizes.new.order ≡ sizes_of c.args.dims.now c.args.order.now
-sized-2 c = c.sizes.ensures ∙ ap (sizes_of c.args.dims.now) (copied-3 c)
-
 pub returns : goal.returns
 returns c =
-    let e = sized-2 c in record { sizes_after = e; l_offsets_after = c.make_offsets.ensures ∙ ap (λ (l : List ℕ). offsets l c.args.l_starts.now c.args.l_rows.now) e; bodies_after = c.make_offsets-2.ensures; next_after = c.copy-2.ensures }
+    let e : c.sizes.new.order ≡ sizes_of c.args.a.now.dims.now c.args.order.now = c.sizes.ensures ∙ ap (sizes_of c.args.a.now.dims.now) (c.copy.ensures ∙ take_all (length c.args.sizes.now) c.args.order.now (omega (arith, c.requires.layable.permutes.entries, c.requires.sizes_len))) in
+    record { sizes_after = e; l_offsets_after = c.make_offsets.ensures ∙ ap (λ (l : List ℕ). offsets l c.args.l_starts.now c.args.l_rows.now) e; bodies_after = c.make_offsets-2.ensures }

@@ -11,12 +11,12 @@ use Rattle.fill_rows.proofs.cores.fill.Goals as goal
 
 pub copy-requires : goal.copy-requires
 copy-requires c =
-    omega (arith, heads-length c.args.starts.now c.args.rows.now (length c.args.parent.now) c.args.l_starts.now (length c.args.l_rows.now) c.requires.laid, c.requires.stamp_len.2)
+    omega (arith, heads-length c.args.t.now.starts.now c.args.t.now.rows.now (length c.args.t.now.parent.now) c.args.l_starts.now (length c.args.l_rows.now) c.requires.laid, c.requires.stamp_len.2)
 
 pub link-requires : goal.link-requires
 link-requires c = (
-  parents-good c.args.starts.now c.args.rows.now (length c.args.parent.now) c.args.parent.now c.requires.tree,
-  heads-rise c.args.starts.now c.args.rows.now (length c.args.parent.now) c.args.l_starts.now (length c.args.l_rows.now) c.requires.laid,
+  parents-good c.args.t.now.starts.now c.args.t.now.rows.now (length c.args.t.now.parent.now) c.args.t.now.parent.now c.requires.tree,
+  heads-rise c.args.t.now.starts.now c.args.t.now.rows.now (length c.args.t.now.parent.now) c.args.l_starts.now (length c.args.l_rows.now) c.requires.laid,
   c.requires.stamp_len.1,
 )
 
@@ -25,8 +25,8 @@ loop-j-init c =
     let one = c.fill in
     let two = c.copy in
     let three = c.link in
-    let n = length c.args.parent.now in (
-      fill_begins c.args.starts.now c.args.rows.now n c.args.parent.now c.args.l_starts.now three.new.onward one.new.s two.new.to c.args.l_rows.now c.requires.tree three.ensures
+    let n = length c.args.t.now.parent.now in (
+      fill_begins c.args.t.now.starts.now c.args.t.now.rows.now n c.args.t.now.parent.now c.args.l_starts.now three.new.onward one.new.s two.new.to c.args.l_rows.now c.requires.tree three.ensures
           (one.ensures ∙ ap (λ (m : ℕ). replicate m 0) c.requires.stamp_len.0) c.requires.laid (two.ensures ∙ ap (λ (m : ℕ). take m c.args.l_starts.now) c.requires.stamp_len.2),
       refl,
       refl,
@@ -36,19 +36,19 @@ pub top-at-requires : goal.top-at-requires
 top-at-requires c =
     let v = c.loop-j in
     let g = v.invariant.0 in (
-      parents-good c.args.starts.now c.args.rows.now (length c.args.parent.now) c.args.parent.now g.tree,
-      heads-rise c.args.starts.now c.args.rows.now (length c.args.parent.now) c.args.l_starts.now (length v.l_rows) g.laid,
+      parents-good c.args.t.now.starts.now c.args.t.now.rows.now (length c.args.t.now.parent.now) c.args.t.now.parent.now g.tree,
+      heads-rise c.args.t.now.starts.now c.args.t.now.rows.now (length c.args.t.now.parent.now) c.args.l_starts.now (length v.l_rows) g.laid,
       c.loop-j-test.true,
       g.on.places,
     )
 
 -- the place that bears the mark first is a column's
-marked : (c : goal.After-top-at) → c.top-at.result < length c.args.parent.now
+marked : (c : goal.After-top-at) → c.top-at.result < length c.args.t.now.parent.now
 marked c =
     let g = c.loop-j.invariant.0 in
-    let parent = c.args.parent.now in
+    let parent = c.args.t.now.parent.now in
     subst (λ (x : ℕ). x < length parent) (sym c.top-at.ensures)
-    (top_up parent c.args.l_starts.now c.link.new.onward g.tree.pattern.few (parents-good c.args.starts.now c.args.rows.now (length parent) parent g.tree) g.on c.loop-j.j c.loop-j-test.true).1
+    (top_up parent c.args.l_starts.now c.link.new.onward g.tree.pattern.few (parents-good c.args.t.now.starts.now c.args.t.now.rows.now (length parent) parent g.tree) g.on c.loop-j.j c.loop-j-test.true).1
 
 pub overflow_cast-at : goal.overflow_cast-at
 overflow_cast-at c = omega (arith, marked c)
@@ -74,9 +74,9 @@ store_climbs-requires c =
     let g = v.invariant.0 in
     let taken = c.loop-j-test.true in
     let call = c.top-at in
-    let starts = c.args.starts.now in
-    let rows = c.args.rows.now in
-    let parent = c.args.parent.now in
+    let starts = c.args.t.now.starts.now in
+    let rows = c.args.t.now.rows.now in
+    let parent = c.args.t.now.parent.now in
     let onward = c.link.new.onward in
     let part = take (get_or starts (v.j + 1) 0 - get_or starts v.j 0) (drop (get_or starts v.j 0) rows) in
     let lent = part_slice rows (get_or starts v.j 0) (get_or starts (v.j + 1) 0) in record { parents = (onward-parents parent c.args.l_starts.now onward g.tree.pattern.few (parents-good starts rows (length parent) parent g.tree) g.on, omega (arith, taken, g.on.places), g.laid.small); stamp_len = (length-set v.stamp call.result (v.j + 1) ∙ g.stamps ∙ sym g.on.places, g.held.counts ∙ sym g.on.places); roomy = fill_asks starts rows (length parent) parent c.args.l_starts.now onward v.stamp v.next v.l_rows v.j g taken part lent call.result call.ensures }
@@ -88,9 +88,9 @@ loop-j-preserved c =
     let taken = c.loop-j-test.true in
     let call = c.top-at in
     let stored = c.store_climbs in
-    let starts = c.args.starts.now in
-    let rows = c.args.rows.now in
-    let parent = c.args.parent.now in
+    let starts = c.args.t.now.starts.now in
+    let rows = c.args.t.now.rows.now in
+    let parent = c.args.t.now.parent.now in
     let onward = c.link.new.onward in
     let part = take (get_or starts (v.j + 1) 0 - get_or starts v.j 0) (drop (get_or starts v.j 0) rows) in
     let lent = part_slice rows (get_or starts v.j 0) (get_or starts (v.j + 1) 0) in (
@@ -104,9 +104,9 @@ pub copy_columns-requires : goal.copy_columns-requires
 copy_columns-requires c =
     let v = c.loop-j in
     let g = v.invariant.0 in
-    let starts = c.args.starts.now in
-    let rows = c.args.rows.now in
-    let parent = c.args.parent.now in (
+    let starts = c.args.t.now.starts.now in
+    let rows = c.args.t.now.rows.now in
+    let parent = c.args.t.now.parent.now in (
       parents-good starts rows (length parent) parent g.tree,
       heads-rise starts rows (length parent) c.args.l_starts.now (length v.l_rows) g.laid,
       heads-whole starts rows (length parent) c.args.l_starts.now (length v.l_rows) g.laid,
@@ -116,5 +116,5 @@ pub returns : goal.returns
 returns c =
     let v = c.loop-j in
     let call = c.copy_columns in
-    fill_ends c.args.starts.now c.args.rows.now (length c.args.parent.now) c.args.parent.now c.args.l_starts.now c.link.new.onward v.stamp v.next v.l_rows v.j v.invariant.0 c.loop-j-test.false
+    fill_ends c.args.t.now.starts.now c.args.t.now.rows.now (length c.args.t.now.parent.now) c.args.t.now.parent.now c.args.l_starts.now c.link.new.onward v.stamp v.next v.l_rows v.j v.invariant.0 c.loop-j-test.false
     call.new.l_rows call.auto.l_rows call.ensures

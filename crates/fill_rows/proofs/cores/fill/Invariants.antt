@@ -4,4 +4,4 @@ use Rattle.fill_rows.proofs.Pass.{Filling}
 use Rattle.fill_rows.proofs.cores.fill.Given as goal
 
 abbrev pub invariant-loop-j : goal.invariant-loop-j
-invariant-loop-j l = Filling l.starts l.rows (length l.parent) l.parent l.l_starts l.onward l.stamp l.next l.l_rows l.j × (l.n ≡ length l.parent) × (length l.l_rows ≡ length l.initial.l_rows)
+invariant-loop-j l = Filling l.t.starts.now l.t.rows.now (length l.t.parent.now) l.t.parent.now l.l_starts l.onward l.stamp l.next l.l_rows l.j × (l.n ≡ length l.t.parent.now) × (length l.l_rows ≡ length l.initial.l_rows)

@@ -1,5 +1,5 @@
 -- `fill_rows::cores::repeats_parent` meets its contract. Assumes nothing.
-use Rattle.std.specs.Prelude.{◌≡◌, ℕ, ◌+◌, ◌<◌, Bool, true, false, not, ◌&&◌, eqb, List, length, get_or}
+use Rattle.std.specs.Prelude.{◌≡◌, ℕ, ◌+◌, Bool, true, false, not, ◌&&◌, eqb, List, get_or}
 use mathlib.Core.Path.{sym, ap}
 use native.Mathlib.Omega.{arith}
 use borrow.Author.Tests.{eq-eqb, ne_eqb}
@@ -17,48 +17,29 @@ returns-then-up c =
     let p = get_or c.args.parent.now c.args.k 0 in
     sym (given c.args.l_starts.now c.args.k p true (eq-eqb p none c.if-up.true))
 
--- past the test k has a parent, which is a column
-above : (c : goal.Else-up) → (c.args.k < get_or c.args.parent.now c.args.k 0) × (get_or c.args.parent.now c.args.k 0 < length c.args.parent.now)
-above c = goes-up c.args.parent.now c.args.k c.requires.0 c.requires.2 c.if-up.false
-
 pub overflow_cast-p : goal.overflow_cast-p
-overflow_cast-p c = omega (arith, above c)
+overflow_cast-p c = omega (arith, goes-up c.args.parent.now c.args.k c.requires.0 c.requires.2 c.if-up.false)
 
 pub overflow_sub-own : goal.overflow_sub-own
 overflow_sub-own c = c.requires.1.rising c.args.k c.requires.2
 
-above-2 : (c : goal.After-shared_slice_known-3-1) → (c.args.k < get_or c.args.parent.now c.args.k 0) × (get_or c.args.parent.now c.args.k 0 < length c.args.parent.now)
-above-2 c = goes-up c.args.parent.now c.args.k c.requires.0 c.requires.2 c.if-up.false
-
 pub overflow_add-above : goal.overflow_add-above
-overflow_add-above c = omega (arith, above-2 c)
+overflow_add-above c = omega (arith, goes-up c.args.parent.now c.args.k c.requires.0 c.requires.2 c.if-up.false)
 
 pub offset_bounds-l_starts-p : goal.offset_bounds-l_starts-p
-offset_bounds-l_starts-p c = omega (arith, above-2 c)
-
-above-3 : (c : goal.After-shared_slice_known-4-1-unread) → (c.args.k < get_or c.args.parent.now c.args.k 0) × (get_or c.args.parent.now c.args.k 0 < length c.args.parent.now)
-above-3 c = goes-up c.args.parent.now c.args.k c.requires.0 c.requires.2 c.if-up.false
+offset_bounds-l_starts-p c = omega (arith, goes-up c.args.parent.now c.args.k c.requires.0 c.requires.2 c.if-up.false)
 
 pub bounds-l_starts-p : goal.bounds-l_starts-p
-bounds-l_starts-p c = omega (arith, above-3 c, c.requires.1.count)
-
-above-4 : (c : goal.After-shared_slice_known-4-1) → (c.args.k < get_or c.args.parent.now c.args.k 0) × (get_or c.args.parent.now c.args.k 0 < length c.args.parent.now)
-above-4 c = goes-up c.args.parent.now c.args.k c.requires.0 c.requires.2 c.if-up.false
+bounds-l_starts-p c = omega (arith, goes-up c.args.parent.now c.args.k c.requires.0 c.requires.2 c.if-up.false, c.requires.1.count)
 
 pub offset_bounds-l_starts-p-2 : goal.offset_bounds-l_starts-p-2
-offset_bounds-l_starts-p-2 c = omega (arith, above-4 c)
-
-above-5 : (c : goal.After-shared_slice_known-5-1-unread) → (c.args.k < get_or c.args.parent.now c.args.k 0) × (get_or c.args.parent.now c.args.k 0 < length c.args.parent.now)
-above-5 c = goes-up c.args.parent.now c.args.k c.requires.0 c.requires.2 c.if-up.false
+offset_bounds-l_starts-p-2 c = omega (arith, goes-up c.args.parent.now c.args.k c.requires.0 c.requires.2 c.if-up.false)
 
 pub bounds-l_starts-p-2 : goal.bounds-l_starts-p-2
-bounds-l_starts-p-2 c = omega (arith, above-5 c, c.requires.1.count)
-
-above-6 : (c : goal.After-shared_slice_known-5-1) → (c.args.k < get_or c.args.parent.now c.args.k 0) × (get_or c.args.parent.now c.args.k 0 < length c.args.parent.now)
-above-6 c = goes-up c.args.parent.now c.args.k c.requires.0 c.requires.2 c.if-up.false
+bounds-l_starts-p-2 c = omega (arith, goes-up c.args.parent.now c.args.k c.requires.0 c.requires.2 c.if-up.false, c.requires.1.count)
 
 pub overflow_sub-above : goal.overflow_sub-above
-overflow_sub-above c = c.requires.1.rising (get_or c.args.parent.now c.args.k 0) (above-6 c).1
+overflow_sub-above c = c.requires.1.rising (get_or c.args.parent.now c.args.k 0) (goes-up c.args.parent.now c.args.k c.requires.0 c.requires.2 c.if-up.false).1
 
 pub returns : goal.returns
 returns c =

@@ -1,15 +1,8 @@
--- `kernel_vector_transpose::cores::sub_mat_transpose_plus_vec_core` meets its contract: the invariant: how far the loop of the definition is. Assumes nothing.
+-- `kernel_vector_transpose::cores::sub_mat_transpose_plus_vec_core` meets its contract: each column's number loses the column's sum. Assumes nothing.
 use borrow.Author.Rules.{rules}
-use Rattle.scalar.proofs.Laws.{steps_next, kernels}
-use Rattle.kernel_vector_transpose.specs.VectorTranspose.{sub_mat_transpose_plus_vec}
+use Rattle.kernel_vector_transpose.specs.VectorTranspose.{column_sum, sub_mat_transpose_plus_vec}
 use Rattle.kernel_vector_transpose.proofs.cores.sub_mat_transpose_plus_vec_core.Goals as goal
-
-pub loop-c-preserved : goal.loop-c-preserved
-loop-c-preserved c = (search rules, search rules, steps_next _ _ _ _ _ c.loop-c.invariant.2 (rw c.column_sum.ensures))
 
 pub returns : goal.returns
 unfolding sub_mat_transpose_plus_vec
-returns c = search kernels
-
-pub loop-c-init : goal.loop-c-init
-loop-c-init c = search kernels
+returns c = rw c.requires.0 at (c.each_less.ensures (column_sum c.args.m c.args.a.now c.args.z.now) (λ k v inside gives. search rules))

@@ -8,20 +8,20 @@ use Rattle.load_column.proofs.cores.load_stored.Goals as goal
 pub find_row-requires : goal.find_row-requires
 find_row-requires c = column-rises c.requires.kept c.args.row c.args.column c.requires.row_in_bounds.1
 
-pub offset_bounds-bodies-p : goal.offset_bounds-bodies-p
-offset_bounds-bodies-p c = omega (arith, (found-fits c.requires.kept c.args.row c.args.column c.requires.row_in_bounds.1 c.in-Some.p c.in-Some.ensures).in_bodies)
+pub offset_bounds-a-p : goal.offset_bounds-a-p
+offset_bounds-a-p c = omega (arith, (found-fits c.requires.kept c.args.row c.args.column c.requires.row_in_bounds.1 c.in-Some.p c.in-Some.ensures).in_bodies)
 
-pub bounds-bodies-p : goal.bounds-bodies-p
-bounds-bodies-p c = omega (arith, (found-fits c.requires.kept c.args.row c.args.column c.requires.row_in_bounds.1 c.in-Some.p c.in-Some.ensures).in_bodies)
+pub bounds-a-p : goal.bounds-a-p
+bounds-a-p c = omega (arith, (found-fits c.requires.kept c.args.row c.args.column c.requires.row_in_bounds.1 c.in-Some.p c.in-Some.ensures).in_bodies)
 
 pub overflow_add-e : goal.overflow_add-e
 overflow_add-e c = omega (arith, (found-fits c.requires.kept c.args.row c.args.column c.requires.row_in_bounds.1 c.in-Some.p c.in-Some.ensures).in_bodies)
 
-pub offset_bounds-bodies-p-in-Some : goal.offset_bounds-bodies-p-in-Some
-offset_bounds-bodies-p-in-Some c = omega (arith, (found-fits c.requires.kept c.args.row c.args.column c.requires.row_in_bounds.1 c.in-Some.p c.in-Some.ensures).in_bodies)
+pub offset_bounds-a-p-in-Some : goal.offset_bounds-a-p-in-Some
+offset_bounds-a-p-in-Some c = omega (arith, (found-fits c.requires.kept c.args.row c.args.column c.requires.row_in_bounds.1 c.in-Some.p c.in-Some.ensures).in_bodies)
 
-pub bounds-bodies-p-in-Some : goal.bounds-bodies-p-in-Some
-bounds-bodies-p-in-Some c = omega (arith, (found-fits c.requires.kept c.args.row c.args.column c.requires.row_in_bounds.1 c.in-Some.p c.in-Some.ensures).in_bodies)
+pub bounds-a-p-in-Some : goal.bounds-a-p-in-Some
+bounds-a-p-in-Some c = omega (arith, (found-fits c.requires.kept c.args.row c.args.column c.requires.row_in_bounds.1 c.in-Some.p c.in-Some.ensures).in_bodies)
 
 pub slice_bounds-load_body-count : goal.slice_bounds-load_body-count
 slice_bounds-load_body-count c = (found-fits c.requires.kept c.args.row c.args.column c.requires.row_in_bounds.1 c.in-Some.p c.in-Some.ensures).in_values.0

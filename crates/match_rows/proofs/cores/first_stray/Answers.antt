@@ -11,7 +11,7 @@ use Rattle.match_rows.proofs.cores.first_stray.Goals as goal
 pub link_children-requires : goal.link_children-requires
 link_children-requires c =
     let s = c.requires in
-    record { n_bound = (s.order_len_bound.0, s.columns); head_value = (refl, length-replicate {A = ℕ} 4096 0) }
+    record { n_bound = (s.compared.few, s.compared.l_columns); head_value = (refl, length-replicate {A = ℕ} 4096 0) }
 
 pub loop-k-init : goal.loop-k-init
 loop-k-init c = (searched zero-le, c.link_children.ensures, length-replicate {A = ℕ} 4096 0, λ i h. omega (arith, get_or-replicate {A = ℕ} 4096 i 0 0 h))
@@ -20,7 +20,7 @@ pub column_given-requires : goal.column_given-requires
 column_given-requires c =
     let s = c.requires in
     let l = c.loop-k in
-    record { order_len_bound = (s.order_len_bound.0, s.order_len_bound.1, s.order_len_bound.2); k_in_bounds = (c.loop-k-test.true, s.columns); families = (l.invariant.1, l.invariant.2, l.invariant.3) }
+    record { compared = s.compared; k_in_bounds = c.loop-k-test.true; families = (l.invariant.1, l.invariant.2, l.invariant.3) }
 
 pub returns-then-not-column_given : goal.returns-then-not-column_given
 returns-then-not-column_given c = found-at _ _ _ _ (failed c.loop-k.invariant.0 c.loop-k-test.true c.column_given.ensures.value c.if-not-column_given.true) c.loop-k-test.true

@@ -8,5 +8,5 @@ use Rattle.match_rows.proofs.cores.first_stray.Given as goal
 
 abbrev pub invariant-loop-k : goal.invariant-loop-k
 invariant-loop-k l =
-    Searched (column_given (given_in l.starts l.rows l.order l.l_starts l.l_rows) l.l_starts l.l_rows) 0 (length l.order) l.k × Families (rows_in l.l_starts l.l_rows) (length l.order) l.head l.sibling
+    Searched (column_given (given_in l.links.starts.now l.links.rows.now l.links.order.now l.l_starts l.l_rows) l.l_starts l.l_rows) 0 (length l.links.order.now) l.k × Families (rows_in l.l_starts l.l_rows) (length l.links.order.now) l.family.head.now l.family.sibling.now
     × (length l.seen ≡ 4096) × ((i : ℕ) → i < 4096 → at l.seen i ≤ l.k)

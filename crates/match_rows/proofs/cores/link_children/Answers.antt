@@ -13,46 +13,6 @@ loop-c-init c =
     let s = c.requires in
     (zero-le, families-none _ _ s.head_value.0 s.head_value.1)
 
--- the first row of column c is a block
-row_below : (c : goal.After-wide-k) → c.wide-k.result < 4096
-row_below c =
-    let s = c.requires in
-    let from = c.wide-from.ensures in
-    let end = c.wide-end.ensures in
-    let below = (s.n_bound.1.ranged c.loop-c.c c.wide-from.result (omega arith) (omega (arith, from)) (omega (arith, end, c.if-from-end.true))).1 in
-    omega (arith, c.wide-k.ensures, below, s.n_bound.0)
-
-pub offset_bounds-head-k : goal.offset_bounds-head-k
-offset_bounds-head-k c = omega (arith, row_below c)
-
-row_below-2 : (c : goal.After-way_told-1) → c.wide-k.result < 4096
-row_below-2 c =
-    let s = c.requires in
-    let from = c.wide-from.ensures in
-    let end = c.wide-end.ensures in
-    let below = (s.n_bound.1.ranged c.loop-c.c c.wide-from.result (omega arith) (omega (arith, from)) (omega (arith, end, c.if-from-end.true))).1 in
-    omega (arith, c.wide-k.ensures, below, s.n_bound.0)
-
-pub bounds-head-k : goal.bounds-head-k
-bounds-head-k c = row_below-2 c
-
-pub overflow_cast-head : goal.overflow_cast-head
-overflow_cast-head c = omega (arith, c.requires.n_bound.0)
-
-row_below-3 : (c : goal.After-way_told-then-from-end-1) → c.wide-k.result < 4096
-row_below-3 c =
-    let s = c.requires in
-    let from = c.wide-from.ensures in
-    let end = c.wide-end.ensures in
-    let below = (s.n_bound.1.ranged c.loop-c.c c.wide-from.result (omega arith) (omega (arith, from)) (omega (arith, end, c.if-from-end.true))).1 in
-    omega (arith, c.wide-k.ensures, below, s.n_bound.0)
-
-pub offset_bounds-head-k-then-from-end : goal.offset_bounds-head-k-then-from-end
-offset_bounds-head-k-then-from-end c = omega (arith, row_below-3 c)
-
-pub bounds-head-k-then-from-end : goal.bounds-head-k-then-from-end
-bounds-head-k-then-from-end c = row_below-3 c
-
 pub loop-c-preserved : goal.loop-c-preserved
 loop-c-preserved c =
     let l = c.loop-c in

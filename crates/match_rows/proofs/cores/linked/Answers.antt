@@ -8,7 +8,7 @@ use Rattle.match_rows.proofs.cores.linked.Goals as goal
 pub returns-then-i-k : goal.returns-then-i-k
 returns-then-i-k c =
     let s = c.args in
-    linked-same s.starts.now s.rows.now s.order.now s.i s.k c.if-i-k.true
+    linked-same s.links.now.starts.now s.links.now.rows.now s.links.now.order.now s.i s.k c.if-i-k.true
 
 pub holds-requires : goal.holds-requires
 holds-requires c =
@@ -20,7 +20,7 @@ returns-then-p-q c =
     let s = c.args in
     let e = c.wide-p.ensures in
     let f = c.wide-q.ensures in
-    rw (e, f) at c.holds.ensures ∙ linked-rises s.starts.now s.rows.now s.order.now s.i s.k c.if-i-k.false (rw (e, f) at c.if-p-q.true)
+    rw (e, f) at c.holds.ensures ∙ linked-rises s.links.now.starts.now s.links.now.rows.now s.links.now.order.now s.i s.k c.if-i-k.false (rw (e, f) at c.if-p-q.true)
 
 pub holds-requires-2 : goal.holds-requires-2
 holds-requires-2 c =
@@ -32,4 +32,4 @@ returns c =
     let s = c.args in
     let e = c.wide-p.ensures in
     let f = c.wide-q.ensures in
-    rw (e, f) at c.holds-2.ensures ∙ linked-falls s.starts.now s.rows.now s.order.now s.i s.k c.if-i-k.false (rw (e, f) at c.if-p-q.false)
+    rw (e, f) at c.holds-2.ensures ∙ linked-falls s.links.now.starts.now s.links.now.rows.now s.links.now.order.now s.i s.k c.if-i-k.false (rw (e, f) at c.if-p-q.false)

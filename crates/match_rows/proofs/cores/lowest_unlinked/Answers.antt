@@ -14,7 +14,7 @@ pub loop-c-init : goal.loop-c-init
 loop-c-init c =
     let s = c.requires in
     let a = c.args in
-    (refl, zero-le, storing-none a.starts.now a.rows.now a.order.now a.inverse.now (length a.order.now) s.columns.0 s.columns.1 (rows_in a.l_starts.now a.l_rows.now))
+    (refl, zero-le, storing-none a.links.now.starts.now a.links.now.rows.now a.links.now.order.now a.inverse.now (length a.links.now.order.now) s.columns.0 s.columns.1 (rows_in a.l_starts.now a.l_rows.now))
 
 pub loop-u-init : goal.loop-u-init
 loop-u-init c =
@@ -44,14 +44,14 @@ loop-u-preserved c =
       omega arith,
       omega arith,
       rw (c.lower_by-least.ensures, c.wide.ensures)
-          (storing-next a.starts.now a.rows.now a.order.now a.inverse.now (length a.order.now) s.columns.0 s.columns.1 (rows_in a.l_starts.now a.l_rows.now) j l.u l.least (omega arith) l.invariant.2 (omega (arith, e)) l.invariant.4),
+          (storing-next a.links.now.starts.now a.links.now.rows.now a.links.now.order.now a.inverse.now (length a.links.now.order.now) s.columns.0 s.columns.1 (rows_in a.l_starts.now a.l_rows.now) j l.u l.least (omega arith) l.invariant.2 (omega (arith, e)) l.invariant.4),
     )
 
 pub loop-c-preserved : goal.loop-c-preserved
 loop-c-preserved c =
     let a = c.args in
     let l = c.loop-u in
-    let z : l.u ≡ at a.starts.now (c.loop-c.c + 1) = omega (arith, l.invariant.1) in
+    let z : l.u ≡ at a.links.now.starts.now (c.loop-c.c + 1) = omega (arith, l.invariant.1) in
     (l.invariant.0, omega arith, rw z at l.invariant.4)
 
 pub returns : goal.returns
@@ -59,5 +59,5 @@ returns c =
     let s = c.requires in
     let a = c.args in
     let l = c.loop-c in
-    let z : l.c ≡ length a.order.now = omega (arith, l.invariant.0) in
-    rw c.then_some.ensures (lowest-of (storing_all a.starts.now a.rows.now a.order.now a.inverse.now (length a.order.now) s.columns.0 s.columns.1 (rows_in a.l_starts.now a.l_rows.now) l.least (rw z at l.invariant.2)))
+    let z : l.c ≡ length a.links.now.order.now = omega (arith, l.invariant.0) in
+    rw c.then_some.ensures (lowest-of (storing_all a.links.now.starts.now a.links.now.rows.now a.links.now.order.now a.inverse.now (length a.links.now.order.now) s.columns.0 s.columns.1 (rows_in a.l_starts.now a.l_rows.now) l.least (rw z at l.invariant.2)))

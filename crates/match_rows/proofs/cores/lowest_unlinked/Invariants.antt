@@ -6,7 +6,7 @@ use Rattle.match_rows.proofs.PairLaws.{Storing}
 use Rattle.match_rows.proofs.cores.lowest_unlinked.Given as goal
 
 abbrev pub invariant-loop-u : goal.invariant-loop-u
-invariant-loop-u l = (l.n ≡ length l.order) × (l.end ≡ at l.starts (l.c + 1)) × (at l.starts l.c ≤ l.u) × (l.u ≤ l.end) × Storing l.starts l.rows l.order l.inverse (length l.order) (rows_in l.l_starts l.l_rows) l.u l.least
+invariant-loop-u l = (l.n ≡ length l.links.order.now) × (l.end ≡ at l.links.starts.now (l.c + 1)) × (at l.links.starts.now l.c ≤ l.u) × (l.u ≤ l.end) × Storing l.links.starts.now l.links.rows.now l.links.order.now l.inverse (length l.links.order.now) (rows_in l.l_starts l.l_rows) l.u l.least
 
 abbrev pub invariant-loop-c : goal.invariant-loop-c
-invariant-loop-c l = (l.n ≡ length l.order) × (l.c ≤ l.n) × Storing l.starts l.rows l.order l.inverse (length l.order) (rows_in l.l_starts l.l_rows) (at l.starts l.c) l.least
+invariant-loop-c l = (l.n ≡ length l.links.order.now) × (l.c ≤ l.n) × Storing l.links.starts.now l.links.rows.now l.links.order.now l.inverse (length l.links.order.now) (rows_in l.l_starts l.l_rows) (at l.links.starts.now l.c) l.least

@@ -9,8 +9,8 @@ use Rattle.match_rows.proofs.HalvedLaws.{rises-of}
 use Rattle.match_rows.proofs.ChildLaws.{latest-le, latest-latest, children-latest, stamps-length, walk_turn, walk-child, walk_end}
 use Rattle.match_rows.proofs.cores.stamp_children.Goals as goal
 
-pub bounds-head-k : goal.bounds-head-k
-bounds-head-k c = omega (arith, c.requires.n_bound.0, c.requires.k_lt_n.0)
+pub bounds-family-k : goal.bounds-family-k
+bounds-family-k c = omega (arith, c.requires.n_bound.0, c.requires.k_lt_n.0)
 
 pub loop-x-init : goal.loop-x-init
 loop-x-init c =
@@ -26,8 +26,8 @@ stamp_rows-requires c =
     let x = c.loop-x.x in
     (rises-of s.n_bound.1 (x - 1) (omega arith), λ p h. omega (arith, s.n_bound.0, s.n_bound.1.below p h), c.loop-x.invariant.2)
 
-pub bounds-sibling-c : goal.bounds-sibling-c
-bounds-sibling-c c = omega (arith, c.requires.n_bound.0)
+pub bounds-family-c : goal.bounds-family-c
+bounds-family-c c = omega (arith, c.requires.n_bound.0)
 
 -- the link read last leads to the child before
 next : (c : goal.After-wide-x-in-loop-x) → let a = c.args in

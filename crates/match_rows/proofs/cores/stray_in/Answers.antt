@@ -7,7 +7,7 @@ pub first_fault-requires : goal.first_fault-requires
 first_fault-requires c u l h =
     let s = c.requires in
     let k = c.args.k in
-    let o = s.k_in_bounds.1.ordered in
+    let o = s.compared.l_columns.ordered in
     let a = rw c.wide.ensures at l in
     let b = rw c.wide-2.ensures at h in
-    (s.order_len_bound.1, s.order_len_bound.2, s.order_len_bound.0, s.k_in_bounds.0, omega (arith, b, o.inside (k + 1) (omega (arith, s.k_in_bounds.0))), (s.k_in_bounds.1.ranged k u s.k_in_bounds.0 a b).1, s.k_in_bounds.2)
+    (s.compared.columns, s.compared.permutes, s.compared.few, s.k_in_bounds.0, omega (arith, b, o.inside (k + 1) (omega (arith, s.k_in_bounds.0))), (s.compared.l_columns.ranged k u s.k_in_bounds.0 a b).1, s.k_in_bounds.1)

@@ -4,7 +4,7 @@ use mathlib.Core.Path.{refl, ap, ◌∙◌}
 use native.Mathlib.Omega.{arith}
 use lib.Seq.{length-take-le}
 use Rattle.refusal.specs.Refusal.{accepted, short_buffer}
-use Rattle.plan_core.proofs.Laws.{row-table-short, planned, zero_of, store_asks, starts-told, rows_told}
+use Rattle.plan_core.proofs.Laws.{row-table-short, planned, cleared_all, same_again, store_asks, starts-told, rows_told}
 use Rattle.plan_core.proofs.cores.planned_core.Goals as goal
 
 -- the same counts, told
@@ -22,64 +22,69 @@ one_more e f = omega arith
 -- L's row table is too short
 pub returns-then-o-need-clause-plans : goal.returns-then-o-need-clause-plans
 returns-then-o-need-clause-plans c =
-    let x = c.requires.exact in
     let found = c.analyze-found in
     let zero = c.clear_plan in
-    let need = found.ensures.analyzed.stored in
-    row-table-short _ _ _ _ x
-    (record {
-      inverse = zero_of zero.ensures.inverse_after (found.auto.inverse ∙ x.inverse);
-      sizes = zero_of zero.ensures.sizes_after (found.auto.sizes ∙ x.sizes);
-      count = zero_of zero.ensures.count_after (found.auto.count ∙ x.count);
-      heads = zero_of zero.ensures.heads_after (found.auto.heads ∙ x.heads);
-      into = zero_of zero.ensures.into_after (found.auto.into ∙ x.into);
-      stamps = zero_of zero.ensures.stamps_after (found.auto.stamps ∙ x.stamps);
-      table = zero_of zero.ensures.table_after (found.auto.table ∙ x.table);
-      upper = zero_of zero.ensures.upper_after (found.auto.upper ∙ x.upper);
-    })
-    (omega (arith, need)) (ap (short_buffer 3) need) refl refl refl refl
+    let need = found.ensures.ready.analyzed.stored in
+    row-table-short _ _ _ _ c.requires.exact (cleared_all _ c.args.o.now c.requires.exact found.ensures.same zero.ensures.cleared) (omega (arith, need)) (ap (short_buffer 3) need) refl refl refl refl
 
 pub store-requires-clause-tree : goal.store-requires-clause-tree
 store-requires-clause-tree c =
     let x = c.requires.exact in
     let found = c.analyze-found in
-    (store_asks _ found.new.count found.new.heads found.new.into found.new.upper found.result found.ensures c.requires.plan_sound.blocks (one_more found.auto.heads x.heads)
-    found.new.stamps found.new.inverse c.args.o.now.l_starts.now (take found.result.counts.stored c.args.o.now.l_rows.now) (found.auto.stamps ∙ x.stamps) (found.auto.inverse ∙ x.inverse) x.l_starts
+    let w = found.new.w in
+    let same = found.ensures.same in
+    (store_asks _ w.count.now w.heads.now w.into.now w.upper.now found.result found.ensures.ready c.requires.plan_sound.blocks (one_more same.heads.1 x.heads)
+    w.stamps.now w.inverse.now c.args.o.now.l_starts.now (take found.result.counts.stored c.args.o.now.l_rows.now) (same.stamps.1 ∙ x.stamps) (same.inverse.1 ∙ x.inverse) x.l_starts
     (length-take-le found.result.counts.stored c.args.o.now.l_rows.now (omega arith))).0
 
 pub store-requires-clause-l_rows_len : goal.store-requires-clause-l_rows_len
 store-requires-clause-l_rows_len c =
     let x = c.requires.exact in
     let found = c.analyze-found in
-    (store_asks _ found.new.count found.new.heads found.new.into found.new.upper found.result found.ensures c.requires.plan_sound.blocks (one_more found.auto.heads x.heads)
-    found.new.stamps found.new.inverse c.args.o.now.l_starts.now (take found.result.counts.stored c.args.o.now.l_rows.now) (found.auto.stamps ∙ x.stamps) (found.auto.inverse ∙ x.inverse) x.l_starts
+    let w = found.new.w in
+    let same = found.ensures.same in
+    (store_asks _ w.count.now w.heads.now w.into.now w.upper.now found.result found.ensures.ready c.requires.plan_sound.blocks (one_more same.heads.1 x.heads)
+    w.stamps.now w.inverse.now c.args.o.now.l_starts.now (take found.result.counts.stored c.args.o.now.l_rows.now) (same.stamps.1 ∙ x.stamps) (same.inverse.1 ∙ x.inverse) x.l_starts
     (length-take-le found.result.counts.stored c.args.o.now.l_rows.now (omega arith))).2
+
+pub returns-clause-scratch : goal.returns-clause-scratch
+returns-clause-scratch c =
+    same_again (same_again c.analyze-found.ensures.same (record {
+      inverse = (refl, c.store.auto.out);
+      sizes = (refl, refl);
+      count = (refl, c.store.auto.count);
+      heads = (refl, refl);
+      into = (refl, refl);
+      stamps = (refl, c.store.auto.stamps);
+      table = (refl, refl);
+      upper = (refl, refl);
+    })) c.clear_plan-2.ensures.same
 
 -- the plan
 pub returns-clause-plans : goal.returns-clause-plans
 returns-clause-plans c =
     let x = c.requires.exact in
     let found = c.analyze-found in
+    let w = found.new.w in
     let store = c.store in
-    let zero = c.clear_plan-2 in
     let few = c.requires.plan_sound.blocks in
-    let room = one_more found.auto.heads x.heads in
-    let need = found.ensures.analyzed.stored in
+    let ready = found.ensures.ready in
+    let room = one_more found.ensures.same.heads.1 x.heads in
     planned _ _ _ _ x
-    (record {
-      inverse = zero_of zero.ensures.inverse_after (store.auto.out ∙ (found.auto.inverse ∙ x.inverse));
-      sizes = zero_of zero.ensures.sizes_after (found.auto.sizes ∙ x.sizes);
-      count = zero_of zero.ensures.count_after (store.auto.count ∙ (found.auto.count ∙ x.count));
-      heads = zero_of zero.ensures.heads_after (found.auto.heads ∙ x.heads);
-      into = zero_of zero.ensures.into_after (found.auto.into ∙ x.into);
-      stamps = zero_of zero.ensures.stamps_after (store.auto.stamps ∙ (found.auto.stamps ∙ x.stamps));
-      table = zero_of zero.ensures.table_after (found.auto.table ∙ x.table);
-      upper = zero_of zero.ensures.upper_after (found.auto.upper ∙ x.upper);
-    })
-    (omega (arith, need))
-    (told_same need found.ensures.analyzed.numbers found.ensures.analyzed.products)
+    (cleared_all _ c.args.o.now x (same_again found.ensures.same (record {
+      inverse = (refl, c.store.auto.out);
+      sizes = (refl, refl);
+      count = (refl, c.store.auto.count);
+      heads = (refl, refl);
+      into = (refl, refl);
+      stamps = (refl, c.store.auto.stamps);
+      table = (refl, refl);
+      upper = (refl, refl);
+    })) c.clear_plan-2.ensures.cleared)
+    (omega (arith, ready.analyzed.stored))
+    (told_same ready.analyzed.stored ready.analyzed.numbers ready.analyzed.products)
     c.move_late.ensures
-    (c.copy.ensures ∙ (ap (λ (m : ℕ). take m found.new.heads) x.parents ∙ found.ensures.analyzed.parents))
-    (starts-told _ found.new.count found.new.heads found.new.into found.new.upper found.result found.ensures few room store.new.l_starts store.ensures.l_starts_after)
-    (front-told store.new.l_rows c.args.o.now.l_rows.now need (rows_told _ found.new.count found.new.heads found.new.into found.new.upper found.result found.ensures few room store.new.l_rows store.ensures.l_rows_after))
+    (c.copy.ensures ∙ (ap (λ (m : ℕ). take m w.heads.now) x.parents ∙ ready.analyzed.parents))
+    (starts-told _ w.count.now w.heads.now w.into.now w.upper.now found.result ready few room store.new.l_starts store.ensures.l_starts_after)
+    (front-told store.new.l_rows c.args.o.now.l_rows.now ready.analyzed.stored (rows_told _ w.count.now w.heads.now w.into.now w.upper.now found.result ready few room store.new.l_rows store.ensures.l_rows_after))
     few

@@ -8,20 +8,11 @@ use Rattle.reach.proofs.cores.scan.Goals.{then-i-j+then-stamp-at, then-i-j+else-
 pub loop-row-init : goal.loop-row-init
 loop-row-init c = scan_begins c.args.parent.now c.args.rows.now c.args.j c.args.mark c.args.stamp.now c.args.out.now c.requires.stamp_len.0 c.requires.stamp_len.1
 
--- past the test of the stamp there is a place for the block
-some : (c : goal.Else-stamp-at) → 0 < c.climb.top
-some c =
-    place (length c.args.parent.now) c.args.mark c.loop-row.out c.climb.stamp c.climb.out c.climb.top c.climb.i c.climb.invariant.kept c.climb.invariant.block c.if-stamp-at.false
-
 pub overflow_sub-top : goal.overflow_sub-top
-overflow_sub-top c = omega (arith, some c)
-
-some-2 : (c : goal.Else-up) → 0 < c.climb.top
-some-2 c =
-    place (length c.args.parent.now) c.args.mark c.loop-row.out c.climb.stamp c.climb.out c.climb.top c.climb.i c.climb.invariant.kept c.climb.invariant.block c.if-stamp-at.false
+overflow_sub-top c = omega (arith, place _ _ c.loop-row.out _ _ _ _ c.climb.invariant.kept c.climb.invariant.block c.if-stamp-at.false)
 
 pub climb-smaller : goal.climb-smaller
-climb-smaller c = omega (arith, some-2 c)
+climb-smaller c = omega (arith, place _ _ c.loop-row.out _ _ _ _ c.climb.invariant.kept c.climb.invariant.block c.if-stamp-at.false)
 
 pub climb-preserved : goal.climb-preserved
 climb-preserved c =

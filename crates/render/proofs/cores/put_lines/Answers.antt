@@ -1,5 +1,5 @@
 -- `render::cores::put_lines` meets its contract: the lines passed are written. Assumes nothing.
-use Rattle.std.specs.Prelude.{◌≡◌, ℕ, ◌+◌, ◌≤◌, List, ◌++◌, length, get_or}
+use Rattle.std.specs.Prelude.{◌≡◌, ℕ, ◌+◌, ◌<◌, ◌≤◌, List, Float, ◌++◌, length, get_or}
 use Prim.Native.Nat.{zero-le}
 use mathlib.Core.Path.{refl, sym, ap, subst}
 use native.Mathlib.Omega.{arith}
@@ -13,12 +13,9 @@ pub loop-k-init : goal.loop-k-init
 loop-k-init c = (zero-le, refl, puts_none c.args.x.now c.args.marks.now c.args.at c.args.out.now)
 
 -- the next line has the room
-room : (c : goal.After-shared_slice_known-in-loop-k-2-1) → let k = c.loop-k.k in c.args.at + length (lines c.args.x.now c.args.marks.now k ++ scalar_line k (get_or c.args.x.now k nan) (get_or c.args.marks.now k 0)) ≤ length c.args.out.now
-room c =
-    let k = c.loop-k.k in
-    let x = c.args.x.now in
-    let marks = c.args.marks.now in
-    omega (arith, ap length (lines_next x marks k), lines-le x marks (k + 1) (length x) (omega arith), c.requires.1)
+next_room : (k : ℕ) (x : List Float) (marks : List ℕ) → k < length x → (at out : ℕ) → at + length (lines x marks (length x)) ≤ out
+    → at + length (lines x marks k ++ scalar_line k (get_or x k nan) (get_or marks k 0)) ≤ out
+next_room k x marks lt at out h = omega (arith, ap length (lines_next x marks k), lines-le x marks (k + 1) (length x) (omega arith), h)
 
 pub scalar_line-next-requires : goal.scalar_line-next-requires
 scalar_line-next-requires c =
@@ -26,14 +23,7 @@ scalar_line-next-requires c =
     let x = c.args.x.now in
     let marks = c.args.marks.now in
     let line = scalar_line k (get_or x k nan) (get_or marks k 0) in
-    puts-room line c.loop-k.invariant.2 (fits_next _ _ (lines x marks k) line (room c))
-
-room-2 : (c : goal.After-slice_known-in-loop-k-1) → let k = c.loop-k.k in c.args.at + length (lines c.args.x.now c.args.marks.now k ++ scalar_line k (get_or c.args.x.now k nan) (get_or c.args.marks.now k 0)) ≤ length c.args.out.now
-room-2 c =
-    let k = c.loop-k.k in
-    let x = c.args.x.now in
-    let marks = c.args.marks.now in
-    omega (arith, ap length (lines_next x marks k), lines-le x marks (k + 1) (length x) (omega arith), c.requires.1)
+    puts-room line c.loop-k.invariant.2 (fits_next _ _ (lines x marks k) line (next_room k x marks (omega arith) _ _ c.requires.1))
 
 pub loop-k-preserved : goal.loop-k-preserved
 loop-k-preserved c =
@@ -41,7 +31,7 @@ loop-k-preserved c =
     let x = c.args.x.now in
     let marks = c.args.marks.now in
     let line = scalar_line l.k (get_or x l.k nan) (get_or marks l.k 0) in
-    let p = puts-next line l.invariant.2 c.scalar_line-next.ensures (room-2 c) in
+    let p = puts-next line l.invariant.2 c.scalar_line-next.ensures (next_room l.k x marks (omega arith) _ _ c.requires.1) in
     (omega arith, omega (arith, c.scalar_line-next.auto.out, l.invariant.1), subst (λ (t : List ℕ). Puts c.args.at t c.args.out.now c.scalar_line-next.result c.scalar_line-next.new.out) (sym (lines_next x marks l.k)) p)
 
 pub returns : goal.returns

@@ -5,7 +5,14 @@ use Rattle.row_products.proofs.RowLaws.{UpTo}
 use Rattle.row_products.proofs.cores.apply_rows.Given as goal
 
 abbrev pub invariant-loop-t : goal.invariant-loop-t
-invariant-loop-t l = (l.t-end ≡ length l.rows) × (l.t ≤ length l.rows) × (length l.qi ≡ length l.initial.qi) × (length l.c ≡ length l.initial.c) × (l.n ≡ l.count + l.t) × UpTo (at l.sizes) (at l.places) l.j l.k l.rows l.offsets l.values l.cache l.unit l.qj l.initial.c l.count l.c l.n l.t
+invariant-loop-t l =
+    record {
+      done : l.t ≤ length l.r.rows.now;
+      room : length l.qi ≡ length l.initial.qi;
+      long : length l.c ≡ length l.initial.c;
+      counts : l.n ≡ l.count + l.t;
+      steps : UpTo (at l.held.pair.sizes.now) (at l.places) l.held.pair.j l.held.pair.k l.r.rows.now l.r.offsets.now l.held.values.now l.held.cache.now l.held.unit.now l.qj l.initial.c l.count l.c l.n l.t;
+    }
 
 abbrev pub decreases-loop-t : goal.decreases-loop-t
-decreases-loop-t l = length l.rows - l.t
+decreases-loop-t l = length l.r.rows.now - l.t

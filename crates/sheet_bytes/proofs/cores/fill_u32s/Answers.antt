@@ -6,20 +6,13 @@ use lib.Seq.{length-take-le}
 use Rattle.sheet_bytes.specs.Layout.{u32s}
 use Rattle.sheet_bytes.proofs.cores.fill_u32s.Goals as goal
 
--- how many places are lent on
-lent : (c : goal.After-read_u32s-arg-1) → length (take c.args.count c.args.out.now) ≡ c.args.count
-lent c = length-take-le c.args.count c.args.out.now c.requires.0
-
 pub slice_bounds-read_u32s-end-2 : goal.slice_bounds-read_u32s-end-2
-slice_bounds-read_u32s-end-2 c = sym (lent c)
+slice_bounds-read_u32s-end-2 c = sym (length-take-le c.args.count c.args.out.now c.requires.0)
 
 pub read_u32s-requires : goal.read_u32s-requires
-read_u32s-requires c = λ k h. c.requires.1 k (omega (arith, lent c))
-
-lent-2 : (c : goal.After-slice_known-2-1) → length (take c.args.count c.args.out.now) ≡ c.args.count
-lent-2 c = length-take-le c.args.count c.args.out.now c.requires.0
+read_u32s-requires c = λ k h. c.requires.1 k (omega (arith, length-take-le c.args.count c.args.out.now c.requires.0))
 
 pub returns : goal.returns
 returns c =
     let x = c.args in
-    ap (λ (t : List ℕ). t ++ drop x.count x.out.now) (c.read_u32s.ensures ∙ ap (u32s x.s.now x.start x.stride) (lent-2 c))
+    ap (λ (t : List ℕ). t ++ drop x.count x.out.now) (c.read_u32s.ensures ∙ ap (u32s x.s.now x.start x.stride) (length-take-le c.args.count c.args.out.now c.requires.0))

@@ -12,16 +12,16 @@ use Rattle.symbolic.proofs.cores.fill.Goals as goal
 
 pub copy-requires : goal.copy-requires
 copy-requires c =
-    let n = length c.args.parent.now in
-    omega (arith, columns_length (linked_up c.args.starts.now c.args.rows.now) n n, c.requires.laid.count, c.requires.stamp_len.2)
+    let n = length c.args.t.now.parent.now in
+    omega (arith, columns_length (linked_up c.args.t.now.starts.now c.args.t.now.rows.now) n n, c.requires.laid.count, c.requires.stamp_len.1)
 
 pub loop-j-init : goal.loop-j-init
 loop-j-init c =
     let one = c.fill in
     let two = c.copy in
-    let n = length c.args.parent.now in (
-      fill_begins c.args.starts.now c.args.rows.now n c.args.parent.now c.args.l_starts.now one.new.s two.new.to c.args.l_rows.now c.requires.tree
-          (one.ensures ∙ ap (λ (m : ℕ). replicate m 0) c.requires.stamp_len.0) c.requires.laid (two.ensures ∙ ap (λ (m : ℕ). take m c.args.l_starts.now) c.requires.stamp_len.2),
+    let n = length c.args.t.now.parent.now in (
+      fill_begins c.args.t.now.starts.now c.args.t.now.rows.now n c.args.t.now.parent.now c.args.l_starts.now one.new.s two.new.to c.args.l_rows.now c.requires.tree
+          (one.ensures ∙ ap (λ (m : ℕ). replicate m 0) c.requires.stamp_len.0) c.requires.laid (two.ensures ∙ ap (λ (m : ℕ). take m c.args.l_starts.now) c.requires.stamp_len.1),
       refl,
       refl,
     )
@@ -40,9 +40,9 @@ store_climbs-requires c =
     let v = c.loop-j in
     let g = v.invariant.0 in
     let taken = c.loop-j-test.true in
-    let starts = c.args.starts.now in
-    let rows = c.args.rows.now in
-    let parent = c.args.parent.now in
+    let starts = c.args.t.now.starts.now in
+    let rows = c.args.t.now.rows.now in
+    let parent = c.args.t.now.parent.now in
     let part = take (get_or starts (v.j + 1) 0 - get_or starts v.j 0) (drop (get_or starts v.j 0) rows) in
     let lent = part_slice rows (get_or starts v.j 0) (get_or starts (v.j + 1) 0) in record { parents = (tree-rule starts rows (length parent) g.tree.pattern.few g.tree.ascends parent g.tree.liu, taken, g.small); stamp_len = (length-set v.stamp v.j (v.j + 1) ∙ g.stamps, g.held.counts); roomy = fill_asks starts rows (length parent) parent c.args.l_starts.now v.stamp v.next v.l_rows v.j g taken part lent }
 
@@ -52,9 +52,9 @@ loop-j-preserved c =
     let call = c.store_climbs in
     let g = v.invariant.0 in
     let taken = c.loop-j-test.true in
-    let starts = c.args.starts.now in
-    let rows = c.args.rows.now in
-    let parent = c.args.parent.now in
+    let starts = c.args.t.now.starts.now in
+    let rows = c.args.t.now.rows.now in
+    let parent = c.args.t.now.parent.now in
     let part = take (get_or starts (v.j + 1) 0 - get_or starts v.j 0) (drop (get_or starts v.j 0) rows) in
     let lent = part_slice rows (get_or starts v.j 0) (get_or starts (v.j + 1) 0) in (
       fill_turns starts rows (length parent) parent c.args.l_starts.now v.stamp v.next v.l_rows v.j g taken part lent
@@ -66,4 +66,4 @@ loop-j-preserved c =
 pub returns : goal.returns
 returns c =
     let v = c.loop-j in
-    fill_ends c.args.starts.now c.args.rows.now (length c.args.parent.now) c.args.parent.now c.args.l_starts.now v.stamp v.next v.l_rows v.j v.invariant.0 c.loop-j-test.false
+    fill_ends c.args.t.now.starts.now c.args.t.now.rows.now (length c.args.t.now.parent.now) c.args.t.now.parent.now c.args.l_starts.now v.stamp v.next v.l_rows v.j v.invariant.0 c.loop-j-test.false

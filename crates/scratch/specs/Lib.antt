@@ -1,0 +1,2 @@
+-- The written definitions that the contracts cite.
+pub mod Scratch  -- what is lent to a plan, before and after
