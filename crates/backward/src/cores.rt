@@ -4,8 +4,8 @@ ghost use Rattle.std.specs.Prelude.{◌≡◌, length};
 ghost use Rattle.sweep.specs.Sweep.{Laid, rows_of};
 ghost use Rattle.backward.specs.Backward.{Backwards, backward_pass};
 
-use sweep::cores::sweep;
-use sweep::{Direction, Rows};
+use sweep::Rows;
+use sweep::cores::{Direction, sweep};
 use tiled_vector::cores::sub_columns;
 
 // Columns descending. Block j loses L(i, j)ᵀ y(i), for each row i of column j.

@@ -8,43 +8,41 @@ ghost use Rattle.factor_core.specs.Factorize as core;
 ghost use Rattle.factor_report.specs.Float.{carried_float};
 
 use factor_core::{Counts, FactorizeError};
+use refusal::number_of;
 
 // The number of an outcome, and what it carries.
 pub fn tell(f: Result<Counts, FactorizeError>, told: &mut [u64; 3], value: &mut [f64; 1]) -> u32
     ensures { (result ≡ refusal.number (core.told f)) × (told.new ≡ carried (core.told f)) × (value.new ≡ carried_float (core.told f)) }
 {
+    let number = number_of(&f);
     match f {
         Ok(c) => carry(
             told,
             value,
-            0,
+            number,
             c.stored as u64,
             c.numbers as u64,
             c.products,
             0.0,
         ),
-        Err(FactorizeError::Blocks) => carry(told, value, 1, 0, 0, 0, 0.0),
-        Err(FactorizeError::Dimension { place }) => carry(told, value, 2, place as u64, 0, 0, 0.0),
-        Err(FactorizeError::Starts { place }) => carry(told, value, 3, place as u64, 0, 0, 0.0),
-        Err(FactorizeError::Stored) => carry(told, value, 4, 0, 0, 0, 0.0),
-        Err(FactorizeError::Row { place }) => carry(told, value, 5, place as u64, 0, 0, 0.0),
-        Err(FactorizeError::Order { place }) => carry(told, value, 6, place as u64, 0, 0, 0.0),
-        Err(FactorizeError::Values) => carry(told, value, 7, 0, 0, 0, 0.0),
-        Err(FactorizeError::Permutation { place }) => carry(
-            told,
-            value,
-            8,
-            place as u64,
-            0,
-            0,
-            0.0,
-        ),
-        Err(FactorizeError::Late { place }) => carry(told, value, 9, place as u64, 0, 0, 0.0),
-        Err(FactorizeError::Tolerance) => carry(told, value, 10, 0, 0, 0, 0.0),
+        Err(
+            FactorizeError::Blocks
+            | FactorizeError::Stored
+            | FactorizeError::Values
+            | FactorizeError::Tolerance,
+        ) => carry(told, value, number, 0, 0, 0, 0.0),
+        Err(
+            FactorizeError::Dimension { place }
+            | FactorizeError::Starts { place }
+            | FactorizeError::Row { place }
+            | FactorizeError::Order { place }
+            | FactorizeError::Permutation { place }
+            | FactorizeError::Late { place },
+        ) => carry(told, value, number, place as u64, 0, 0, 0.0),
         Err(FactorizeError::Short { which, need }) => carry(
             told,
             value,
-            11,
+            number,
             which as u64,
             need as u64,
             0,
@@ -56,11 +54,11 @@ pub fn tell(f: Result<Counts, FactorizeError>, told: &mut [u64; 3], value: &mut 
                 place,
                 pivot,
             },
-        ) => carry(told, value, 13, block as u64, place as u64, 0, pivot),
+        ) => carry(told, value, number, block as u64, place as u64, 0, pivot),
         Err(FactorizeError::Poor { block, condition }) => carry(
             told,
             value,
-            14,
+            number,
             block as u64,
             0,
             0,

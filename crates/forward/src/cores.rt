@@ -4,8 +4,8 @@ ghost use Rattle.std.specs.Prelude.{◌≡◌, length};
 ghost use Rattle.sweep.specs.Sweep.{Laid, rows_of};
 ghost use Rattle.forward.specs.Forward.{Forwards, forward_pass};
 
-use sweep::cores::sweep;
-use sweep::{Direction, Rows};
+use sweep::Rows;
+use sweep::cores::{Direction, sweep};
 use tiled_vector::cores::sub_rows;
 
 // Columns ascending. Block i loses L(i, j) y(j), for each row i of column j; no row of the column changes y(j).

@@ -3,15 +3,40 @@
 // 01's number, 0 where the call is accepted. Refused, the needs are zeros; `told` has the block of 2, and zeros after and else.
 #![tactic(auto)]
 
-ghost use Rattle.std.specs.Prelude.{◌≡◌, [], ◌∷◌, length};
+ghost use Rattle.std.specs.Prelude.{◌≡◌, ◌≤◌, [], ◌∷◌, length, OnOk};
 ghost use Rattle.refusal.specs.Refusal as refusal;
 ghost use Rattle.report.specs.Report.{carried};
+ghost use Rattle.tables.specs.Sound.{Sizes};
+ghost use Rattle.needs_abi.specs.Outcome.{told, told_error};
 ghost use Rattle.needs_abi.specs.Needs.{counts_verdict, sizes_verdict, tree_needs, reach_needs, plan_needs, factor_needs, cached_needs, shaped, solve_needs, marks_needs, ExportsNeeds};
 
 use factor_core::cores::lesser;
 use factor_tables::cores::{scalars, unit_numbers, work_numbers};
+use refusal::Refusal;
 use report::carry;
 use tables::cores::first_dim;
+
+// The refusals of a call that tells needs.
+enum NeedsError {
+    // 1
+    Blocks,
+    // 2: the block.
+    Dimension { place: usize },
+    // 4
+    Stored,
+}
+
+impl Refusal for NeedsError {
+    ghost told = { told_error };
+
+    fn number(&self) -> u32 {
+        match self {
+            NeedsError::Blocks => 1,
+            NeedsError::Dimension { place: _ } => 2,
+            NeedsError::Stored => 4,
+        }
+    }
+}
 
 // Of `beyqaloosh_elimination_tree` on so many blocks.
 #[unsafe(no_mangle)]
@@ -49,15 +74,14 @@ pub extern "C" fn beyqaloosh_plan_needs(
 ) -> u32
     ensures { ExportsNeeds (counts_verdict blocks stored) (plan_needs blocks stored l_blocks) result needs.new told.new }
 {
-    let number = check_counts(blocks, stored, told);
-    if number != 0 {
+    if let Err(e) = check_counts(blocks, stored) {
         *needs = [0; 12];
-        return number;
+        return refuse(e, told);
     }
     let n = blocks as u64;
     let m = stored as u64;
     *needs = [n, n, n + 1, l_blocks as u64, n, n, n, n + 1, n + 1, n, m, m];
-    number
+    carry(told, 0, 0, 0, 0)
 }
 
 // Of `beyqaloosh_factorize` on these dimensions with so many blocks stored, where the plan has told L's blocks and L's numbers.
@@ -72,18 +96,104 @@ pub extern "C" fn beyqaloosh_factorize_needs(
 ) -> u32
     ensures { ExportsNeeds (sizes_verdict dims.now stored) (factor_needs (shaped dims.now stored 0) l_blocks l_numbers) result needs.new told.new }
 {
-    let number = check_sizes(dims, stored, told);
-    if number != 0 {
+    if let Err(e) = check_sizes(dims, stored) {
         *needs = [0; 21];
-        return number;
+        return refuse(e, told);
     }
+    *needs = factor_list(dims, stored, l_blocks, l_numbers);
+    carry(told, 0, 0, 0, 0)
+}
+
+// Of `beyqaloosh_factorize_with_cache`, where A's values are so many numbers: the same, and the cache's need last.
+#[unsafe(no_mangle)]
+pub extern "C" fn beyqaloosh_factorize_with_cache_needs(
+    dims: &[u32],
+    stored: usize,
+    numbers: u32,
+    l_blocks: u32,
+    l_numbers: u32,
+    needs: &mut [u64; 22],
+    told: &mut [u64; 3],
+) -> u32
+    ensures { ExportsNeeds (sizes_verdict dims.now stored) (cached_needs (shaped dims.now stored numbers) l_blocks l_numbers) result needs.new told.new }
+{
+    if let Err(e) = check_sizes(dims, stored) {
+        *needs = [0; 22];
+        return refuse(e, told);
+    }
+    let first = factor_list(dims, stored, l_blocks, l_numbers);
+    let n = dims.len();
+    let handed_in = n + (n + 1) + stored + numbers as usize + n + n;
+    let cache = lesser(l_numbers as usize, 16 * (1 + handed_in)) as u64;
+    *needs = [
+        first[0], first[1], first[2], first[3], first[4], first[5], first[6], first[7], first[8],
+        first[9], first[10], first[11], first[12], first[13], first[14], first[15], first[16],
+        first[17], first[18], first[19], first[20], cache,
+    ];
+    carry(told, 0, 0, 0, 0)
+}
+
+// Of `beyqaloosh_solve_inplace` on these dimensions: the right side, which must have exactly that, then scratch.
+#[unsafe(no_mangle)]
+pub extern "C" fn beyqaloosh_solve_inplace_needs(
+    dims: &[u32],
+    needs: &mut [u64; 5],
+    told: &mut [u64; 3],
+) -> u32
+    ensures { ExportsNeeds (sizes_verdict dims.now 0) (solve_needs dims.now) result needs.new told.new }
+{
+    if let Err(e) = check_sizes(dims, 0) {
+        *needs = [0; 5];
+        return refuse(e, told);
+    }
+    let n = dims.len() as u64;
+    let all = scalars(dims) as u64;
+    *needs = [all, all, all, n, n + 1];
+    carry(told, 0, 0, 0, 0)
+}
+
+// Of `beyqaloosh_marks` on these dimensions.
+#[unsafe(no_mangle)]
+pub extern "C" fn beyqaloosh_marks_needs(
+    dims: &[u32],
+    needs: &mut [u64; 1],
+    told: &mut [u64; 3],
+) -> u32
+    ensures { ExportsNeeds (sizes_verdict dims.now 0) (marks_needs dims.now) result needs.new told.new }
+{
+    if let Err(e) = check_sizes(dims, 0) {
+        *needs = [0; 1];
+        return refuse(e, told);
+    }
+    *needs = [scalars(dims) as u64];
+    carry(told, 0, 0, 0, 0)
+}
+
+// Two buffers with a place for each block.
+fn each_block(blocks: usize, needs: &mut [u64; 2], told: &mut [u64; 3]) -> u32
+    ensures { ExportsNeeds (counts_verdict blocks 0) (blocks ∷ blocks ∷ []) result needs.new told.new }
+{
+    if let Err(e) = check_counts(blocks, 0) {
+        *needs = [0; 2];
+        return refuse(e, told);
+    }
+    let n = blocks as u64;
+    *needs = [n, n];
+    carry(told, 0, 0, 0, 0)
+}
+
+// Of a factorization without a cache, on dimensions and a count that pass.
+fn factor_list(dims: &[u32], stored: usize, l_blocks: u32, l_numbers: u32) -> [u64; 21]
+    requires { Sizes dims.now × (length dims.now ≤ 4096) × (stored ≤ 65536) }
+    ensures { result ≡ factor_needs (shaped dims.now stored 0) l_blocks l_numbers }
+{
     let n = dims.len() as u64;
     let m = stored as u64;
     let l = l_blocks as u64;
     let units = unit_numbers(dims) as u64;
     let all = scalars(dims) as u64;
     let work = work_numbers(dims) as u64;
-    *needs = [
+    [
         n,
         n,
         n + 1,
@@ -105,117 +215,47 @@ pub extern "C" fn beyqaloosh_factorize_needs(
         n + 1,
         n + 1,
         n,
-    ];
-    number
+    ]
 }
 
-// Of `beyqaloosh_factorize_with_cache`, where A's values are so many numbers: the same, and the cache's need last.
-#[unsafe(no_mangle)]
-pub extern "C" fn beyqaloosh_factorize_with_cache_needs(
-    dims: &[u32],
-    stored: usize,
-    numbers: u32,
-    l_blocks: u32,
-    l_numbers: u32,
-    needs: &mut [u64; 22],
-    told: &mut [u64; 3],
-) -> u32
-    ensures { ExportsNeeds (sizes_verdict dims.now stored) (cached_needs (shaped dims.now stored numbers) l_blocks l_numbers) result needs.new told.new }
+// The number of a refusal, and what it carries.
+fn refuse(e: NeedsError, told: &mut [u64; 3]) -> u32
+    ensures { (result ≡ refusal.number (told_error e)) × (told.new ≡ carried (told_error e)) }
 {
-    let mut first: [u64; 21] = [0; 21];
-    let number = beyqaloosh_factorize_needs(dims, stored, l_blocks, l_numbers, &mut first, told);
-    if number != 0 {
-        *needs = [0; 22];
-        return number;
+    let number = e.number();
+    match e {
+        NeedsError::Blocks | NeedsError::Stored => carry(told, number, 0, 0, 0),
+        NeedsError::Dimension { place } => carry(told, number, place as u64, 0, 0),
     }
-    let n = dims.len();
-    let handed_in = n + (n + 1) + stored + numbers as usize + n + n;
-    let cache = lesser(l_numbers as usize, 16 * (1 + handed_in)) as u64;
-    *needs = [
-        first[0], first[1], first[2], first[3], first[4], first[5], first[6], first[7], first[8],
-        first[9], first[10], first[11], first[12], first[13], first[14], first[15], first[16],
-        first[17], first[18], first[19], first[20], cache,
-    ];
-    number
 }
 
-// Of `beyqaloosh_solve_inplace` on these dimensions: the right side, which must have exactly that, then scratch.
-#[unsafe(no_mangle)]
-pub extern "C" fn beyqaloosh_solve_inplace_needs(
-    dims: &[u32],
-    needs: &mut [u64; 5],
-    told: &mut [u64; 3],
-) -> u32
-    ensures { ExportsNeeds (sizes_verdict dims.now 0) (solve_needs dims.now) result needs.new told.new }
-{
-    let number = check_sizes(dims, 0, told);
-    if number != 0 {
-        *needs = [0; 5];
-        return number;
-    }
-    let n = dims.len() as u64;
-    let all = scalars(dims) as u64;
-    *needs = [all, all, all, n, n + 1];
-    number
-}
-
-// Of `beyqaloosh_marks` on these dimensions.
-#[unsafe(no_mangle)]
-pub extern "C" fn beyqaloosh_marks_needs(
-    dims: &[u32],
-    needs: &mut [u64; 1],
-    told: &mut [u64; 3],
-) -> u32
-    ensures { ExportsNeeds (sizes_verdict dims.now 0) (marks_needs dims.now) result needs.new told.new }
-{
-    let number = check_sizes(dims, 0, told);
-    if number != 0 {
-        *needs = [0; 1];
-        return number;
-    }
-    *needs = [scalars(dims) as u64];
-    number
-}
-
-// Two buffers with a place for each block.
-fn each_block(blocks: usize, needs: &mut [u64; 2], told: &mut [u64; 3]) -> u32
-    ensures { ExportsNeeds (counts_verdict blocks 0) (blocks ∷ blocks ∷ []) result needs.new told.new }
-{
-    let number = check_counts(blocks, 0, told);
-    if number != 0 {
-        *needs = [0; 2];
-        return number;
-    }
-    let n = blocks as u64;
-    *needs = [n, n];
-    number
-}
-
-// 1 and 4: the number, and what it carries.
-fn check_counts(blocks: usize, stored: usize, told: &mut [u64; 3]) -> u32
-    ensures { (result ≡ refusal.number (counts_verdict blocks stored)) × (told.new ≡ carried (counts_verdict blocks stored)) }
+// 1 and 4.
+fn check_counts(blocks: usize, stored: usize) -> Result<(), NeedsError>
+    ensures says { told result ≡ counts_verdict blocks stored }
+    ensures fits { OnOk result ((blocks ≤ 4096) × (stored ≤ 65536)) }
 {
     if blocks > 4096 {
-        return carry(told, 1, 0, 0, 0);
+        return Err(NeedsError::Blocks);
     }
     if stored > 65536 {
-        return carry(told, 4, 0, 0, 0);
+        return Err(NeedsError::Stored);
     }
-    carry(told, 0, 0, 0, 0)
+    Ok(())
 }
 
-// 1, 2 and 4: the same.
-fn check_sizes(dims: &[u32], stored: usize, told: &mut [u64; 3]) -> u32
-    ensures { (result ≡ refusal.number (sizes_verdict dims.now stored)) × (told.new ≡ carried (sizes_verdict dims.now stored)) }
+// 1, 2 and 4.
+fn check_sizes(dims: &[u32], stored: usize) -> Result<(), NeedsError>
+    ensures says { told result ≡ sizes_verdict dims.now stored }
+    ensures fits { OnOk result (Sizes dims.now × (length dims.now ≤ 4096) × (stored ≤ 65536)) }
 {
     if dims.len() > 4096 {
-        return carry(told, 1, 0, 0, 0);
+        return Err(NeedsError::Blocks);
     }
     if let Some(place) = first_dim(dims) {
-        return carry(told, 2, place as u64, 0, 0);
+        return Err(NeedsError::Dimension { place });
     }
     if stored > 65536 {
-        return carry(told, 4, 0, 0, 0);
+        return Err(NeedsError::Stored);
     }
-    carry(told, 0, 0, 0, 0)
+    Ok(())
 }

@@ -12,6 +12,7 @@ ghost use Rattle.reach_abi.specs.Number.{ExportsTree, ExportsReach};
 use elimination_tree::TreeError;
 use reach::ReachError;
 use reach::cores::Mark;
+use refusal::number_of;
 use report::carry;
 
 // The tree: `elimination_tree::new`. Accepted, `told` has zeros; refused, the place, or the buffer and its need, and zeros after.
@@ -53,13 +54,12 @@ pub extern "C" fn beyqaloosh_reach(
 fn tell_grown(g: Result<(), TreeError>, told: &mut [u64; 3]) -> u32
     ensures { (result ≡ refusal.number (tree.told g)) × (told.new ≡ carried (tree.told g)) }
 {
+    let number = number_of(&g);
     match g {
-        Ok(_) => carry(told, 0, 0, 0, 0),
-        Err(TreeError::Blocks) => carry(told, 1, 0, 0, 0),
-        Err(TreeError::Starts { place }) => carry(told, 3, place as u64, 0, 0),
-        Err(TreeError::Row { place }) => carry(told, 5, place as u64, 0, 0),
-        Err(TreeError::Order { place }) => carry(told, 6, place as u64, 0, 0),
-        Err(TreeError::Short { which, need }) => carry(told, 11, which as u64, need as u64, 0),
+        Ok(_) | Err(TreeError::Blocks) => carry(told, number, 0, 0, 0),
+        Err(TreeError::Starts { place } | TreeError::Row { place } | TreeError::Order { place }) =>
+            carry(told, number, place as u64, 0, 0),
+        Err(TreeError::Short { which, need }) => carry(told, number, which as u64, need as u64, 0),
     }
 }
 
@@ -67,14 +67,17 @@ fn tell_grown(g: Result<(), TreeError>, told: &mut [u64; 3]) -> u32
 fn tell_reached(w: Result<Mark, ReachError>, told: &mut [u64; 3]) -> u32
     ensures { (result ≡ refusal.number (walk.told w)) × (told.new ≡ carried (walk.told w)) }
 {
+    let number = number_of(&w);
     match w {
-        Ok(m) => carry(told, 0, m.mark as u64, m.top as u64, 0),
-        Err(ReachError::Blocks) => carry(told, 1, 0, 0, 0),
-        Err(ReachError::Starts { place }) => carry(told, 3, place as u64, 0, 0),
-        Err(ReachError::Row { place }) => carry(told, 5, place as u64, 0, 0),
-        Err(ReachError::Parent { place }) => carry(told, 5, place as u64, 1, 0),
-        Err(ReachError::Order { place }) => carry(told, 6, place as u64, 0, 0),
-        Err(ReachError::Short { which, need }) => carry(told, 11, which as u64, need as u64, 0),
-        Err(ReachError::Past { place }) => carry(told, 12, place as u64, 0, 0),
+        Ok(m) => carry(told, number, m.mark as u64, m.top as u64, 0),
+        Err(ReachError::Blocks) => carry(told, number, 0, 0, 0),
+        Err(
+            ReachError::Starts { place }
+            | ReachError::Row { place }
+            | ReachError::Order { place }
+            | ReachError::Past { place },
+        ) => carry(told, number, place as u64, 0, 0),
+        Err(ReachError::Parent { place }) => carry(told, number, place as u64, 1, 0),
+        Err(ReachError::Short { which, need }) => carry(told, number, which as u64, need as u64, 0),
     }
 }

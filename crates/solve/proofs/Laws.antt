@@ -1,6 +1,5 @@
 -- What a verdict that passes gives the core (`ready`, `held`), and the answer where it passes (`answered`). Assumes nothing.
-use Rattle.std.specs.Prelude.{◌≡◌, ℕ, ◌+◌, ◌≤◌, Bool, true, false, cond, List, [], ◌∷◌, length, is_ok, Result, Ok, Err}
-use mathlib.Core.Bool.{false≢true}
+use Rattle.std.specs.Prelude.{◌≡◌, ℕ, ◌+◌, ◌≤◌, Bool, true, false, cond, List, [], ◌∷◌, length, Ok}
 use mathlib.Core.Path.{refl, sym, ap, subst, ◌∙◌}
 use lib.Ieee.{Float}
 use Rattle.graph.specs.Order.{Permutes, moved}
@@ -25,7 +24,7 @@ use Rattle.solve_core.specs.Core.{Solvable, SolvedBy, Cleared}
 use Rattle.solve_core.proofs.CoreLaws.{laid}
 use Rattle.solve_match.specs.Verdict.{match_verdict}
 use Rattle.solve_match.proofs.Fresh as match
-use Rattle.solve.specs.Solve.{told_error, told, lent_list, call_verdict, Call, verdict_of, columns_of, HoldsFactor, FreshFactor, Solves}
+use Rattle.solve.specs.Solve.{told_error, lent_list, call_verdict, Call, verdict_of, columns_of, HoldsFactor, FreshFactor, Solves}
 use Rattle.solve.specs.declared.SolveError.{SolveError}
 use Rattle.solve.specs.declared.SolveError.TheVariants as variant
 
@@ -136,10 +135,10 @@ module _ (a : Call) where
   as-new : {A : Type 0} (old new now : A) → refuses (verdict_of a) ≡ false → now ≡ new → now ≡ after (verdict_of a) old new
   as-new old new now e n = n ∙ sym (ap (λ (t : Bool). cond t old new) e)
 
-  answered-ok : (x y : List Float) (scalar_perm sizes starts : List ℕ) → done ≡ verdict_of a
+  pub answered : (x y : List Float) (scalar_perm sizes starts : List ℕ) → done ≡ verdict_of a
       → SolvedBy a.dims a.order a.l_starts a.l_rows a.l_offsets a.l_values a.diag a.d a.x x → Cleared a.dims a.y a.scalar_perm a.sizes a.scalar_starts y scalar_perm sizes starts
       → Solves a (Ok tt) x y scalar_perm sizes starts
-  answered-ok x y scalar_perm sizes starts says solves cleared =
+  answered x y scalar_perm sizes starts says solves cleared =
       let e : refuses (verdict_of a) ≡ false = ap refuses (sym says) in
       record {
         outcome = first_passes (verdict_of a) done e;
@@ -151,14 +150,3 @@ module _ (a : Call) where
         by_columns = λ _. solves;
         fresh = is-fresh;
       }
-
-  -- as the checks answer
-  pub ok-passes : (r : Result Unit SolveError) → told r ≡ verdict_of a → is_ok r ≡ true → refuses (verdict_of a) ≡ false
-  ok-passes (Ok w) says e = ap refuses (sym says)
-  ok-passes (Err x) says e = absurd (false≢true e)
-
-  pub answered : (r : Result Unit SolveError) (x y : List Float) (scalar_perm sizes starts : List ℕ) → told r ≡ verdict_of a → is_ok r ≡ true
-      → SolvedBy a.dims a.order a.l_starts a.l_rows a.l_offsets a.l_values a.diag a.d a.x x → Cleared a.dims a.y a.scalar_perm a.sizes a.scalar_starts y scalar_perm sizes starts
-      → Solves a r x y scalar_perm sizes starts
-  answered (Ok w) x y scalar_perm sizes starts says e solves cleared = answered-ok x y scalar_perm sizes starts says solves cleared
-  answered (Err x) _ _ _ _ _ says e solves cleared = absurd (false≢true e)

@@ -160,20 +160,17 @@ pub fn solve_inplace(night: &Night, factor: &Factor, lent: &mut Lent) -> Result<
     ensures solves { Solves (called night.now factor.now lent.old) result lent.new.x.now lent.new.y.now lent.new.scalar_perm.now lent.new.sizes.now lent.new.scalar_starts.now }
     ensures same { SameLent lent.old lent.new }
 {
-    let checked = check_call(night, factor, lent);
-    let passes = checked.is_ok();
-    if passes {
-        solve_lent(
-            night.dims,
-            factor,
-            lent.x,
-            lent.y,
-            lent.scalar_perm,
-            lent.sizes,
-            lent.scalar_starts,
-        );
-    }
-    checked
+    check_call(night, factor, lent)?;
+    solve_lent(
+        night.dims,
+        factor,
+        lent.x,
+        lent.y,
+        lent.scalar_perm,
+        lent.sizes,
+        lent.scalar_starts,
+    );
+    Ok(())
 }
 
 // The checks of the call by number: 1 to 9, 11, 12. Nothing that is lent is read.

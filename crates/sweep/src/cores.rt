@@ -1,12 +1,28 @@
 // The sweep, where the factor's tables are known to be good. y holds the vector by new number, block k from starts[k] on.
 // Kept: what each of these calls asks, and each of its two directions, is one record, `Laid`.
-ghost use Rattle.std.specs.Prelude.{◌≡◌, ◌*◌, ◌<◌, length};
+ghost use Rattle.std.specs.Prelude.{◌≡◌, ◌+◌, ◌*◌, ◌<◌, ◌≤◌, length};
 ghost use Rattle.tables.specs.Verdict.{at};
 ghost use Rattle.block_product.specs.Working.{slot};
 ghost use Rattle.solution.specs.Flat.{RowFits};
-ghost use Rattle.sweep.specs.Sweep.{Laid, rows_of, column_done, swept};
+ghost use Rattle.sweep.specs.Sweep.{Pass, Laid, rows_of, column_done, swept};
 
-use crate::{Direction, Rows};
+use crate::Rows;
+
+// In which order the columns come, and what one row does.
+pub trait Direction {
+    ghost pass: { Pass };
+
+    // The column of turn t of n.
+    fn column(n: usize, t: usize) -> usize
+        requires { t < n }
+        ensures { (result ≡ pass.column n t) × (result < n) };
+
+    // What the row with the body a, of h rows and w columns, does with the vector y: its column's numbers are the w from s on, its own the h
+    // from t on.
+    fn row(h: usize, w: usize, a: &[f64], y: &mut [f64], s: usize, t: usize)
+        requires { (length a.now ≡ h * w) × (s + w ≤ t) × (t + h ≤ length y.old) }
+        ensures { y.new ≡ pass.row h w a.now s t y.old };
+}
 
 // All columns, in the order of the direction.
 pub fn sweep<D: Direction>(r: &Rows, y: &mut [f64])

@@ -7,7 +7,22 @@ use word_list::lent::{listed, table};
 use word_list::room::{BLOCKS, held};
 use word_list::tally::Count;
 
-const TREE: u32 = 1;
+// What a call asks for.
+#[derive(Clone, Copy)]
+enum Asked {
+    Tree,
+    Walk,
+}
+
+// Kept: the list's number of a call, which becomes the enum here.
+impl From<u32> for Asked {
+    fn from(word: u32) -> Asked {
+        match word {
+            1 => Asked::Tree,
+            _ => Asked::Walk,
+        }
+    }
+}
 
 // Reads the next turn and judges its calls; none is the word that ends the list.
 pub fn next() -> Result<Option<Case>, BadList> {
@@ -82,12 +97,16 @@ fn call(
     b: &mut [u32],
 ) -> bool {
     let at = w[1] as usize;
-    if w[0] == TREE {
-        let grown = elimination_tree::new(at, starts, rows, a, b);
-        return says(w, &grown, (0, 0));
+    match Asked::from(w[0]) {
+        Asked::Tree => {
+            let grown = elimination_tree::new(at, starts, rows, a, b);
+            says(w, &grown, (0, 0))
+        }
+        Asked::Walk => {
+            let walked = reach::reach(starts, rows, parents, at, w[2], a, b);
+            // accepted, the mark that the walk used and where its list begins
+            let found = walked.map_or((0, 0), |m| (m.mark as usize, m.top));
+            says(w, &walked, found)
+        }
     }
-    let walked = reach::reach(starts, rows, parents, at, w[2], a, b);
-    // accepted, the mark that the walk used and where its list begins
-    let found = walked.map_or((0, 0), |m| (m.mark as usize, m.top));
-    says(w, &walked, found)
 }

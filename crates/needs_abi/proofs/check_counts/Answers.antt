@@ -3,20 +3,15 @@ use Rattle.std.specs.Prelude.{[], ◌∷◌}
 use mathlib.Core.Path.{refl, ◌∙◌}
 use Rattle.tables.specs.Verdict.{stored_check}
 use Rattle.tables.proofs.CheckLaws.{stops, goes, blocks-stop, blocks-go, stored-stop, stored-go}
-use Rattle.needs_abi.proofs.Laws.{told-as}
 use Rattle.needs_abi.proofs.check_counts.Goals as goal
 
-pub returns-then-blocks-gt4096 : goal.returns-then-blocks-gt4096
-returns-then-blocks-gt4096 c = told-as (stops (stored_check _ ∷ []) (blocks-stop _ c.if-blocks-gt4096.true) refl) c.carry.ensures
+pub returns-then-blocks-gt4096-clause-says : goal.returns-then-blocks-gt4096-clause-says
+returns-then-blocks-gt4096-clause-says c = stops (stored_check _ ∷ []) (blocks-stop _ c.if-blocks-gt4096.true) refl
 
-pub returns-then-stored-gt65536 : goal.returns-then-stored-gt65536
-returns-then-stored-gt65536 c =
-    told-as
-    (stops [] (stored-stop _ c.if-stored-gt65536.true) refl ∙ goes (stored_check _ ∷ []) (blocks-go _ c.if-blocks-gt4096.false))
-    c.carry-then-stored-gt65536.ensures
+pub returns-then-stored-gt65536-clause-says : goal.returns-then-stored-gt65536-clause-says
+returns-then-stored-gt65536-clause-says c =
+    stops [] (stored-stop _ c.if-stored-gt65536.true) refl ∙ goes (stored_check _ ∷ []) (blocks-go _ c.if-blocks-gt4096.false)
 
-pub returns : goal.returns
-returns c =
-    told-as
-    (goes [] (stored-go _ c.if-stored-gt65536.false) ∙ goes (stored_check _ ∷ []) (blocks-go _ c.if-blocks-gt4096.false))
-    c.carry-2.ensures
+pub returns-clause-says : goal.returns-clause-says
+returns-clause-says c =
+    goes [] (stored-go _ c.if-stored-gt65536.false) ∙ goes (stored_check _ ∷ []) (blocks-go _ c.if-blocks-gt4096.false)

@@ -4,9 +4,9 @@ use Rattle.tables.specs.Search.{fault}
 use mathlib.Core.Path.{refl, ◌∙◌}
 use Rattle.refusal.specs.Refusal.{verdict}
 use Rattle.tables.specs.Verdict.{dim_ok, dims_check, stored_check}
+use Rattle.tables.proofs.TableLaws.{sizes-of}
 use Rattle.tables.proofs.CheckLaws.{stops, goes, blocks-stop, blocks-go, dims-stop, dims-go, stored-stop, stored-go}
 use Rattle.needs_abi.specs.Needs.{sizes_verdict}
-use Rattle.needs_abi.proofs.Laws.{told-as}
 use Rattle.needs_abi.proofs.check_sizes.Goals as goal
 
 -- past the first test, and past the second, what is left of the verdict is all of it
@@ -17,24 +17,21 @@ module _ (dims : List ℕ) (stored : ℕ) where
   past-dims : length dims ≤ 4096 → None ≡ fault (dim_ok dims) 0 (length dims) → verdict (stored_check stored ∷ []) ≡ sizes_verdict dims stored
   past-dims few e = goes (stored_check stored ∷ []) (dims-go _ e) ∙ past-blocks few
 
-pub returns-then-dims-gt4096 : goal.returns-then-dims-gt4096
-returns-then-dims-gt4096 c =
-    told-as (stops (dims_check c.args.dims.now ∷ stored_check c.args.stored ∷ []) (blocks-stop _ c.if-dims-gt4096.true) refl) c.carry.ensures
+pub returns-then-dims-gt4096-clause-says : goal.returns-then-dims-gt4096-clause-says
+returns-then-dims-gt4096-clause-says c =
+    stops (dims_check c.args.dims.now ∷ stored_check c.args.stored ∷ []) (blocks-stop _ c.if-dims-gt4096.true) refl
 
-pub returns-in-Some : goal.returns-in-Some
-returns-in-Some c =
-    told-as
-    (stops (stored_check c.args.stored ∷ []) (dims-stop _ _ c.in-Some.ensures) refl ∙ past-blocks c.args.dims.now c.args.stored c.if-dims-gt4096.false)
-    c.carry-in-Some.ensures
+pub returns-in-Some-clause-says : goal.returns-in-Some-clause-says
+returns-in-Some-clause-says c =
+    stops (stored_check c.args.stored ∷ []) (dims-stop _ _ c.in-Some.ensures) refl ∙ past-blocks c.args.dims.now c.args.stored c.if-dims-gt4096.false
 
-pub returns-then-stored-gt65536 : goal.returns-then-stored-gt65536
-returns-then-stored-gt65536 c =
-    told-as
-    (stops [] (stored-stop _ c.if-stored-gt65536.true) refl ∙ past-dims c.args.dims.now c.args.stored c.if-dims-gt4096.false c.in_default.ensures)
-    c.carry-then-stored-gt65536.ensures
+pub returns-then-stored-gt65536-clause-says : goal.returns-then-stored-gt65536-clause-says
+returns-then-stored-gt65536-clause-says c =
+    stops [] (stored-stop _ c.if-stored-gt65536.true) refl ∙ past-dims c.args.dims.now c.args.stored c.if-dims-gt4096.false c.in_default.ensures
 
-pub returns : goal.returns
-returns c =
-    told-as
-    (goes [] (stored-go _ c.if-stored-gt65536.false) ∙ past-dims c.args.dims.now c.args.stored c.if-dims-gt4096.false c.in_default.ensures)
-    c.carry-2.ensures
+pub returns-clause-says : goal.returns-clause-says
+returns-clause-says c =
+    goes [] (stored-go _ c.if-stored-gt65536.false) ∙ past-dims c.args.dims.now c.args.stored c.if-dims-gt4096.false c.in_default.ensures
+
+pub returns-clause-fits : goal.returns-clause-fits
+returns-clause-fits c = (sizes-of c.args.dims.now c.in_default.ensures, c.if-dims-gt4096.false, c.if-stored-gt65536.false)
