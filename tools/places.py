@@ -68,8 +68,9 @@ def numbers():
 
 
 def shape(code):
-    """A body with its names in the order of their first use, its numbers alike."""
+    """A body with its names in the order of their first use, its numbers alike, without its casts."""
     names = {}
+    code = re.sub(r"\bwide\(([^()]*)\)|\b(\w+(?:\[[^\[\]]*\])?) as (?:usize|u64|u32|u8)\b", lambda m: m.group(1) or m.group(2), code)
     tokens = re.findall(r"[A-Za-z_]\w*|\d[\w.]*|[^\sA-Za-z0-9_]", re.sub(r"//[^\n]*", "", code))
     keep = {"let", "mut", "if", "else", "while", "for", "in", "match", "return", "true", "false", "as"}
     out = []
@@ -104,7 +105,7 @@ def loops():
 def by_hand():
     """Equality, copying, conversion and printing written by hand."""
     for path, at, name, _, _, _, _ in functions():
-        if re.match(r"(same|equal|is_same|copy|cmp|wide|long|size$|print_|name(_|$)|of_|from_(?!left|right)|to_)", name):
+        if re.match(r"(same|equal|is_same|copy|cmp|wide$|long|size$|print_|name(_|$)|of_|from_(?!left|right)|to_)", name):
             yield f"{path}:{at}: fn {name}"
 
 

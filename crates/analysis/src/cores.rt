@@ -1,6 +1,6 @@
 // From A's tables, the permutation and the late flags to the elimination tree and the rows of L. `analyze` finds the tree and what L
 // has in all, and stores nothing of L; `store` then writes where each column begins, and the rows.
-// Kept: that the night has passed, as a fact: `plan`, `plan_core` and `analysis` are one call cut in pieces, and a struct around the night would be opened in each.
+// Kept: that the night has passed, as one named record: `plan` says why it is in no struct.
 ghost use Rattle.std.specs.Prelude.{◌≡◌, ◌+◌, ◌≤◌, length, take};
 ghost use Rattle.graph.specs.Links.{linked_in};
 ghost use Rattle.graph.specs.Order.{moved};
@@ -54,22 +54,19 @@ fn permute(a: &Night, w: &mut Scratch) -> u32
     entries
 }
 
-// The tree of the upper pattern in the first `entries` rows, how many rows each column of L has, and what L has in all. `stamps` is scratch.
+// The tree of an upper pattern, how many rows each column of L has, and what L has in all. `stamps` is scratch.
 fn count_l(
     starts: &[u32],
-    upper: &[u32],
-    entries: usize,
+    rows: &[u32],
     sizes: &[u32],
     tree: &mut [u32],
     stamps: &mut [u32],
     count: &mut [u32],
 ) -> Counts
-    requires inside { entries ≤ length upper.now }
-    requires pattern { Pattern (length tree.old) starts.now (take entries upper.now) × Ascends (length tree.old) starts.now (take entries upper.now) × Sized (length tree.old) sizes.now }
+    requires pattern { Pattern (length tree.old) starts.now rows.now × Ascends (length tree.old) starts.now rows.now × Sized (length tree.old) sizes.now }
     requires stamps_len { (length stamps.old ≡ length tree.old) × (length count.old ≡ length tree.old) }
-    ensures { Analyzed (length tree.old) (linked_up starts.now (take entries upper.now)) sizes.now tree.new count.new result }
+    ensures { Analyzed (length tree.old) (linked_up starts.now rows.now) sizes.now tree.new count.new result }
 {
-    let rows = &upper[..entries];
     elimination_tree::cores::new_core(starts, rows, tree, stamps);
     let grown = UpperTree {
         starts,
@@ -77,11 +74,11 @@ fn count_l(
         parent: &tree[..],
     };
     let numbers = symbolic::cores::counts(&grown, sizes, stamps, count);
-    let all = symbolic::cores::add_up(count);
+    let (stored, products) = symbolic::cores::add_up(count);
     Counts {
-        stored: all.stored,
+        stored,
         numbers,
-        products: all.products,
+        products,
     }
 }
 
@@ -101,12 +98,15 @@ pub fn analyze(a: &Night, w: &mut Scratch) -> Analysis
     let into = &mut *w.into;
     let stamps = &mut *w.stamps;
     let upper = &mut *w.upper;
-    let counts = count_l(into, upper, entries, sizes, &mut heads[..n], stamps, count);
+    let (rows, _) = upper.split_at_mut(entries);
+    let counts = count_l(into, rows, sizes, &mut heads[..n], stamps, count);
     Analysis { entries, counts }
 }
 
 // Where each column of L begins, and L's rows, column after column. The upper pattern is in the first `entries` rows. `stamps` and `out` are
 // scratch, and so is `count` from here on.
+// Kept: `entries`, how far the rows are used. Tried with rows that the callers cut, by `&upper[..found.entries]` and by `split_at_mut`: `planned_core` does not close then, since
+// nothing is known afterwards of the scratch that the cut is a part of.
 pub fn store(
     t: &UpperTree,
     entries: usize,

@@ -1,5 +1,6 @@
 -- The sweep of the backward part does what the solve means: `rows-up` over the rows of a column, `columns-up` over the columns. Assumes nothing.
-use Rattle.std.specs.Prelude.{◌≡◌, ℕ, zero, suc, ◌+◌, ◌-◌, ◌*◌, ◌<◌, ◌≤◌, List, length}
+use Rattle.std.specs.Prelude.{◌≡◌, ℕ, zero, suc, ◌+◌, ◌-◌, ◌*◌, ◌<◌, ◌≤◌, List, ◌++◌, length, take, drop}
+use mathlib.Core.Logic.{inr}
 use mathlib.Core.Path.{refl, sym, ap, subst, ◌∙◌}
 use native.Mathlib.Omega.{arith}
 use lib.Ieee.{Float}
@@ -10,13 +11,14 @@ use Rattle.tables.specs.Verdict.{at}
 use Rattle.kernel_vector_transpose.specs.VectorTranspose.{sub_mat_transpose_plus_vec}
 use Rattle.machine.specs.Machine.{Column}
 use Rattle.block_product.specs.Working.{slot}
-use Rattle.block_product.proofs.SlotLaws.{slot-length, within-length}
+use Rattle.block_product.proofs.SlotLaws.{slot-length, slot-other, within-length}
 use Rattle.layout.specs.Layout.{Tables, side, start_of, stop_of, RowsLaid}
 use Rattle.solution.specs.Solution.{Vector, put, through, backward_row, backward_column, backward_turn, backward}
 use Rattle.solution.specs.Flat.{HoldsRows, BlocksLaid, ShowsVector}
 use Rattle.solution.proofs.RowLaws.{through-none, through-more, lost-transpose-length}
 use Rattle.solution.proofs.VectorLaws.{block_inside, shows-within, own_block, other_block, same_block, written-again}
-use Rattle.sweep.specs.Sweep.{rows_done, column_done, turns_done}
+use Rattle.sweep.specs.Sweep.{Touches, rows_done, column_done, turns_done}
+use Rattle.sweep.proofs.SweepLaws.{rewritten}
 use Rattle.backward.specs.Backward.{Backwards, backward_pass}
 
 module _ (t : Tables) (starts : List ℕ) (l_values : List Float) where
@@ -120,3 +122,11 @@ module _ (t : Tables) (starts : List ℕ) (l_values : List Float) where
     pub columns-up : Backwards t starts l_values n y (turns_done backward_pass t starts l_values n y)
     unfolding backward
     columns-up = (turns-up n (omega arith)).1
+
+-- the column's part loses Aᵀ times a row's, which stays
+pub row_touches : (h w : ℕ) (a x y x' : List Float) → length x' ≡ w → x' ≡ sub_mat_transpose_plus_vec h w x a y → Touches backward_pass h w a x y x' y
+row_touches h w a x y x' size e s t z fits block sx sy =
+    ap (λ (l : List Float). take s z ++ (l ++ drop w (drop s z)))
+    (ap (λ (l : List Float). sub_mat_transpose_plus_vec h w l a (slot t h z)) sx ∙ ap (sub_mat_transpose_plus_vec h w x a) sy ∙ sym e)
+    ∙ sym (ap (λ (l : List Float). within t h (λ _. l) (within s w (λ _. x') z)) (sym (slot-other s w (λ _. x') z (omega (arith, fits, block)) size t h (inr fits) ∙ sy))
+    ∙ rewritten t h (within s w (λ _. x') z))

@@ -18,8 +18,8 @@ impl Direction for Up {
         n - 1 - t
     }
 
-    fn row(h: usize, w: usize, a: &[f64], y: &mut [f64], s: usize, t: usize) {
-        sub_columns(h, w, a, y, s, t);
+    fn row(h: usize, w: usize, a: &[f64], x: &mut [f64], y: &mut [f64]) {
+        sub_columns(h, w, a, x, y);
     }
 }
 

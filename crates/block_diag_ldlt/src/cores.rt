@@ -5,7 +5,6 @@ ghost use Rattle.block_diag_ldlt.specs.Block.{of_pivot, is_poor, block_ldlt};
 use dense_ldlt::cores::{NotFinite, ldlt_decompose_core};
 use dense_pivots::{Definiteness, LdltResult};
 use scalar::blank;
-use scalar::cores::copy;
 
 // Why a block is refused.
 #[derive(Clone, Copy, Debug, PartialEq)]
@@ -38,7 +37,7 @@ pub fn decompose_core(
     requires { (length a.now ≡ n * n) × (length l.old ≡ n * n) × (length d.old ≡ n) }
     ensures { (result, l.new, d.new) ≡ block_ldlt n tol a.now }
 {
-    copy(a, l);
+    l.copy_from_slice(a);
     let k = ldlt_decompose_core(n, l, d, tol)?;
     if is_poor(k) {
         blank(l);

@@ -40,7 +40,7 @@ impl Refusal for DecomposeError {
     }
 }
 
-// Kept: its cases are those of another error, which carries the same.
+// Kept: case by case: each call's error has just the cases of its own refusals, so one that is handed on becomes the case of the same number and place.
 impl From<ShapeError> for DecomposeError {
     ghost from_gives = { λ e r. r ≡ of_shape e };
 

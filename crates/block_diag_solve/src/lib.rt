@@ -11,7 +11,7 @@ use dense_solve_right::cores::{ldlt_right_matsolve_core, right_shapes};
 use refusal::ShapeError;
 
 // y := A⁻¹ y, with the factor mat_l of n rows and columns, d and y of n numbers.
-// Kept: each calls its own shapes and its own core; these two lines are all that it shares with the others.
+// Kept: a name of the source and of the C interface: `dense_solve::ldlt_solve_inplace`, but that a dimension 0 is refused.
 pub fn solve_inplace_vec(
     n: usize,
     mat_l: &[f64],
@@ -26,7 +26,7 @@ pub fn solve_inplace_vec(
 }
 
 // X := X A⁻¹, with the factor mat_l of n rows and columns, d of n numbers and X of m rows and n columns.
-// Kept: each calls its own shapes and its own core; these two lines are all that it shares with the others.
+// Kept: a name of the source and of the C interface: `dense_solve_right::ldlt_right_matsolve_inplace`, but that a dimension 0 is refused.
 pub fn right_solve_inplace(
     m: usize,
     n: usize,

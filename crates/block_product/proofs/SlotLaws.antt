@@ -1,11 +1,12 @@
 -- Slots of a flat list: what a write of one does to it, and to the others. Assumes nothing.
-use Rattle.std.specs.Prelude.{◌≡◌, ℕ, ◌+◌, ◌-◌, ◌<◌, ◌≤◌, ◌⊎◌, List, ◌++◌, length, take, drop}
+use Rattle.std.specs.Prelude.{◌≡◌, ℕ, zero, suc, ◌+◌, ◌-◌, ◌<◌, ◌≤◌, ◌⊎◌, List, ◌++◌, length, take, drop}
 use mathlib.Core.Logic.{inl, inr}
-use mathlib.Core.Path.{sym, ap, subst, ◌∙◌}
+use mathlib.Core.Path.{refl, sym, ap, subst, ◌∙◌}
 use native.Mathlib.Omega.{arith}
 use lib.Ieee.{Float}
 use lib.ListN.{length-append, length-drop, take-append-drop}
-use lib.Seq.{take_at, drop_at, take-append-le, drop-append-le, drop-drop, length-take-le, get_or-take, get_or-drop}
+use lib.Seq.{drop-cons, take_at, drop_at, take-append-le, drop-append-le, drop-drop, length-take-le, get_or-take, get_or-drop}
+use Rattle.graph.specs.Sets.{from, gather}
 use Rattle.scalar.specs.Block.{within}
 use Rattle.tables.specs.Verdict.{at}
 use Rattle.block_product.specs.Working.{slot}
@@ -13,6 +14,13 @@ use Rattle.block_product.specs.Working.{slot}
 -- an entry of a slot of a table
 pub at_slot : (l : List ℕ) (off size t : ℕ) → t < size → at (slot off size l) t ≡ at l (off + t)
 at_slot l off size t h = get_or-take size (drop off l) t 0 h ∙ get_or-drop off l t 0
+
+-- a list for each entry of a slot of a table
+pub gather-part : {A : Type 0} (f : ℕ → List A) (l : List ℕ) (start many : ℕ) → start + many ≤ length l → gather (λ u. f (at l u)) (from start many) ≡ gather f (slot start many l)
+gather-part f l start zero h = refl
+gather-part f l start (suc many) h =
+    ap (λ (r : List _). f (at l start) ++ r) (gather-part f l (suc start) many (omega arith))
+    ∙ sym (ap (λ (r : List ℕ). gather f (take (suc many) r)) (drop-cons l start 0 (omega arith)))
 
 module _ {A : Type 0} where
   pub slot-length : (l : List A) (off size : ℕ) → off + size ≤ length l → length (slot off size l) ≡ size

@@ -1,4 +1,5 @@
 -- The machine's step on the flat list that shows its column.
+--     steps-length, sub-length    what a loop and a product keep the length of
 --     shows-within    a write of one block
 --     product-step    one block product, from the equation that the code has
 -- Assumes nothing.
@@ -27,12 +28,12 @@ use Rattle.block_product.proofs.SlotLaws.{slot-length, slot-written, slot-other}
 -- ---- lengths
 
 -- a loop whose turns keep the length keeps it
-steps-length : (f : ℕ → List Float → List Float) → ((k : ℕ) (a : List Float) → length (f k a) ≡ length a) → (n : ℕ) (a : List Float) → length (steps f n a) ≡ length a
+pub steps-length : (f : ℕ → List Float → List Float) → ((k : ℕ) (a : List Float) → length (f k a) ≡ length a) → (n : ℕ) (a : List Float) → length (steps f n a) ≡ length a
 unfolding steps
 steps-length f h zero a = refl
 steps-length f h (suc n) a = h n (steps f n a) ∙ steps-length f h n a
 
-sub-length : (m n k : ℕ) (y a d b : List Float) → length (sub_mat_diag_mat_t m n k y a d b) ≡ length y
+pub sub-length : (m n k : ℕ) (y a d b : List Float) → length (sub_mat_diag_mat_t m n k y a d b) ≡ length y
 unfolding sub_mat_diag_mat_t
 sub-length m n k y a d b = steps-length _ (λ t. steps-length _ (λ j. steps-length _ (λ i y. length-set y _ _) m) n) k y
 

@@ -1,5 +1,6 @@
 // One block product, where every block is known to lie in its slice.
-// Kept: that w is not 0 and how long a, b, d and q are, which other contracts ask too: it is said of slices that are lent beside their sizes.
+// Kept: how long a block is, as a fact beside its sizes: a block with its sizes would be a struct made for each product, and taken apart at once by the cores
+// below, which ask for the sizes and the slice.
 ghost use Rattle.std.specs.Prelude.{◌≡◌, ◌+◌, ◌*◌, ◌^◌, ◌<◌, ◌≤◌, length};
 ghost use Rattle.tables.specs.Verdict.{at};
 ghost use Rattle.machine.specs.Machine.{mat_product};
@@ -20,6 +21,8 @@ pub struct Pair<'a> {
 
 // Block (i, j), which lies in the working column c from `place` on, loses Q(i) d Q(j)ᵀ. qj is Q(j) d, which serves all rows i, and qi
 // is Q(i). The count comes back one greater.
+// Kept: the count is handed in and back, so that what is counted and what is worked are one promise. If each call answered how many products it made, this one
+// would answer 1, and each call above would add where it hands on.
 pub fn block_product(
     p: &Pair,
     i: usize,

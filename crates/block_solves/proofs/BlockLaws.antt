@@ -9,7 +9,8 @@ use Rattle.scalar.proofs.Laws.{steps-none, steps-more}
 use Rattle.buckets.proofs.Turns.{before-next}
 use Rattle.tables.specs.Verdict.{at}
 use Rattle.scalars.specs.Scalars.{scalar_starts}
-use Rattle.scalars.proofs.ScalarLaws.{starts-at, nothing-before}
+use Rattle.buckets.proofs.Laws.{nothing-before}
+use Rattle.scalars.proofs.ScalarLaws.{starts-at}
 use Rattle.dense_solve.specs.Solve.{ldlt_solve}
 use Rattle.block_product.specs.Working.{slot}
 use Rattle.layout.specs.Layout.{squares, unit_starts_of, DiagonalLaid}

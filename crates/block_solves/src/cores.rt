@@ -1,6 +1,6 @@
 // The blocks of the solve, where the tables are known to be good. y holds the vector by new number, block k from starts[k] on.
-// Kept: that j is a block is about the number that is handed in beside the list.
-ghost use Rattle.std.specs.Prelude.{◌≡◌, ◌+◌, ◌<◌, length};
+// Kept: that j is one of the blocks, as a fact: j is counted by the loop, and stands beside the list.
+ghost use Rattle.std.specs.Prelude.{◌≡◌, ◌+◌, ◌*◌, ◌<◌, ◌≤◌, length};
 ghost use Rattle.tables.specs.Verdict.{at};
 ghost use Rattle.scalars.specs.Scalars.{scalar_starts};
 ghost use Rattle.layout.specs.Layout.{unit_starts_of, DiagonalLaid};
@@ -15,6 +15,7 @@ pub fn solve_blocks(sizes: &[u32], starts: &[u32], diag: &[f64], d: &[f64], y: &
     ensures { Solves sizes.now starts.now diag.now d.now (length sizes.now) y.old y.new }
 {
     let mut unit: usize = 0;
+    // Kept: j goes to `solve_block`, which reads two lists by it, and says of them what it says of block j.
     for j in 0..sizes.len() {
         unit = solve_block(sizes, starts, j, unit, diag, d, y);
     }
@@ -32,6 +33,7 @@ fn solve_block(
 ) -> usize
     requires starts_value { (starts.now ≡ scalar_starts sizes.now) × DiagonalLaid sizes.now (unit_starts_of sizes.now) starts.now (length sizes.now) (length diag.now) (length d.now) × BlocksLaid sizes.now starts.now (length y.old) }
     requires j_in_bounds { (j < length sizes.now) × (unit ≡ at (unit_starts_of sizes.now) j) }
+    requires fits { (at starts.now j + at sizes.now j ≤ length y.old) × (at starts.now j + at sizes.now j ≤ length d.now) × (unit + at sizes.now j * at sizes.now j ≤ length diag.now) }
     ensures value { result ≡ at (unit_starts_of sizes.now) (j + 1) }
     ensures solves_block { SolvesBlock sizes.now starts.now diag.now d.now j y.old y.new }
 {

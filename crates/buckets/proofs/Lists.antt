@@ -7,6 +7,7 @@ use lib.Dec.{eqb→eq}
 use lib.ListN.{length-append}
 use lib.Seq.{slice, take-nil}
 use Rattle.graph.specs.Sets.{elem, keep, filter, from}
+use Rattle.graph.proofs.OrderLaws.{filter-append}
 use Rattle.graph.proofs.SetLaws.{decide, true_of, eqb_of, elem-head, elem-tail}
 
 -- two numbers are equal, or they are not
@@ -29,14 +30,6 @@ get_or_any (x ∷ l) zero d e h = refl
 get_or_any (x ∷ l) (suc i) d e h = get_or_any l i d e (omega arith)
 
 -- ---- runs of numbers, filtered
-
-pub filter-append : (p : ℕ → Bool) (l m : List ℕ) → filter p (l ++ m) ≡ filter p l ++ filter p m
-filter-append p [] m = refl
-filter-append p (x ∷ l) m = ap (keep (p x) x) (filter-append p l m) ∙ keep_append (p x)
-  where
-    keep_append : (b : Bool) → keep b x (filter p l ++ filter p m) ≡ keep b x (filter p l) ++ filter p m
-    keep_append true = refl
-    keep_append false = refl
 
 pub from-split : (a c d : ℕ) → from a (c + d) ≡ from a c ++ from (a + c) d
 from-split a zero d =

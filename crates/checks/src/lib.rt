@@ -8,6 +8,7 @@ ghost use Rattle.tables.specs.Verdict.{system_verdict, plan_verdict, factor_verd
 ghost use Rattle.checks.specs.Outcome.{told_system, told_plan, told_factor, told_system_error, told_plan_error, told_factor_error};
 
 use columns::cores::{Least, first_fall, first_row, total_area};
+use lists::Night;
 use refusal::Refusal;
 use scalar::is_tolerance;
 use tables::cores::{first_dim, first_late, first_perm, first_start};
@@ -181,46 +182,43 @@ pub fn check_system(
 }
 
 // What a plan is made from: A's tables without its values, the permutation and the late flags.
+// Kept: its first six tests are those of `check_system`. A function for them would answer an error of its own, with six cases, and need a `From` into the error of either
+// call: that is longer than the six tests.
 #[tactic(auto, using(crate::proofs::PlanLaws::plan_laws))]
-pub fn check_plan(
-    dims: &[u32],
-    starts: &[u32],
-    rows: &[u32],
-    perm: &[u32],
-    late: &[u32],
-) -> Result<(), PlanTablesError>
-    ensures { told_plan result ≡ plan_verdict dims.now starts.now rows.now perm.now late.now }
+pub fn check_plan(night: &Night) -> Result<(), PlanTablesError>
+    ensures { told_plan result ≡ plan_verdict night.now.dims.now night.now.starts.now night.now.rows.now night.now.perm.now night.now.late.now }
 {
-    let n = dims.len();
+    let n = night.dims.len();
     if n > MAX_BLOCKS {
         return Err(PlanTablesError::Blocks);
     }
-    if let Some(place) = first_dim(dims) {
+    if let Some(place) = first_dim(night.dims) {
         return Err(PlanTablesError::Dimension { place });
     }
-    let m = rows.len();
-    if let Some(place) = first_start(starts, n, m) {
+    let m = night.rows.len();
+    if let Some(place) = first_start(night.starts, n, m) {
         return Err(PlanTablesError::Starts { place });
     }
     if m > MAX_STORED {
         return Err(PlanTablesError::Stored);
     }
-    if let Some(place) = first_row(starts, rows, n, Least::Diagonal) {
+    if let Some(place) = first_row(night.starts, night.rows, n, Least::Diagonal) {
         return Err(PlanTablesError::Row { place });
     }
-    if let Some(place) = first_fall(starts, rows, n) {
+    if let Some(place) = first_fall(night.starts, night.rows, n) {
         return Err(PlanTablesError::Order { place });
     }
-    if let Some(place) = first_perm(perm, n) {
+    if let Some(place) = first_perm(night.perm, n) {
         return Err(PlanTablesError::Permutation { place });
     }
-    if let Some(place) = first_late(late, n) {
+    if let Some(place) = first_late(night.late, n) {
         return Err(PlanTablesError::Late { place });
     }
     Ok(())
 }
 
 // The tables of a factor, whose column j stores rows past j.
+// Kept: its tests are those of `check_system` but for the bounds of the rows and for 4, in the midst of the others; shared by a function they would answer an error of its own.
 #[tactic(auto, using(crate::proofs::FactorLaws::factor_laws))]
 pub fn check_factor(
     dims: &[u32],

@@ -1,5 +1,6 @@
 // The block products of column j by column k, where the plan's tables are known to be good.
-// Kept: that w is not 0 and how long d is, which other contracts ask too: it is said of a slice that is lent beside a size.
+// Kept: that w is not 0 and how long a unit factor and a d are, as facts: a block with its sizes would be a struct made for each column k from parts of longer
+// lists, for the one test that `scaled_by_d` makes of it.
 ghost use Rattle.std.specs.Prelude.{◌≡◌, ◌+◌, ◌-◌, ◌*◌, ◌^◌, ◌<◌, ◌≤◌, length, take};
 ghost use Rattle.tables.specs.Verdict.{at};
 ghost use Rattle.column_products.specs.Columns.{plan_of, PlacesFit, FactorsFit, ScaledByD, ColumnProducts, SameWorking};
@@ -7,7 +8,6 @@ ghost use Rattle.column_products.specs.Columns.{plan_of, PlacesFit, FactorsFit, 
 use block_product::cores::{Pair, multiply_diag};
 use lists::{Numbers, Tables};
 use row_products::cores::{Held, Rows, apply_rows};
-use scalar::cores::copy;
 use tiled_product::cores::times_diag_core;
 
 // The column being worked, and the rooms for its products.
@@ -31,6 +31,7 @@ pub struct Part {
 
 // By column k, whose row j stands at place `from` of the tables, and whose last row before `end`. Q(j) d is made once, and each Q that the
 // cache has, Q(j) among them, is taken from it.
+// Kept: the count is handed on to `apply_rows`.
 pub fn apply_column(t: &Tables, f: &Numbers, j: usize, p: &Part, w: &mut Working, count: u64) -> u64
     requires places_fit { PlacesFit (plan_of t.now w.old.places.now) j p.now.k p.now.from p.now.end (length f.now.l_values.now) (length w.old.qi.now) (length w.old.c.now) }
     requires factors_fit { FactorsFit (plan_of t.now w.old.places.now) j p.now.k (length f.now.diag.now) (length f.now.d.now) (length w.old.qj.now) }
@@ -81,7 +82,7 @@ fn scaled_by_d(h: usize, w: usize, o: usize, held: &Held, d: &[f64], q: &mut [f6
     let room = h * w;
     let end = o + room;
     if end <= held.cache.len() {
-        copy(&held.cache[o..end], &mut q[..room]);
+        q[..room].copy_from_slice(&held.cache[o..end]);
         times_diag_core(h, w, d, &mut q[..room]);
         return;
     }

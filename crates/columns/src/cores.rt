@@ -1,14 +1,17 @@
 // The searches over the row table, whose columns the starts give, that the checks of tables are made of. How one is made:
 //   NAME_ok      one place: its test in `Verdict` of tables
 //   first_NAME   the first place at which the test of its column fails, if there is one
-// Kept: what is asked of a single number, a place or a count, as a fact of the one call that has it.
+// Kept: `n ≤ 4096` and `p < length rows` are each about a number that the search around counts, or a length, and `Sizes dims` is one named record: a type for any of them would be
+// built at each turn of a search, or around one list.
+// Kept: the starts and the rows as two lists: A's, a factor's and an upper pattern's are lent in three different structs, or apart, so each caller would build a struct of the two for
+// one call.
 ghost use Rattle.std.specs.Prelude.{◌≡◌, ℕ, Bool, Option, ◌+◌, ◌<◌, ◌≤◌, length};
 ghost use Rattle.tables.specs.Search.{fault, sum};
 ghost use Rattle.tables.specs.Verdict.{at, column_of, row_ok, row_fits, order_ok, order_fits, block_area, areas};
 ghost use Rattle.tables.specs.Sound.{Sizes, Ordered, Measured};
 ghost use Rattle.columns.specs.Least.{least_row};
 
-use tables::cores::{first_fault, wide};
+use tables::cores::first_fault;
 
 // What the least row of column j is: j in A, j + 1 in a factor, 0 in an upper pattern.
 #[derive(Clone, Copy)]
@@ -31,11 +34,12 @@ pub fn least_row(least: Least, j: usize) -> usize
 }
 
 // The row at place p is in from..n.
+#[tactic(auto, unfolding(tables::specs::Verdict::row_ok))]
 pub fn row_ok(rows: &[u32], n: usize, from: usize, p: usize) -> bool
     requires { p < length rows.now }
     ensures { result ≡ row_ok rows.now n from p }
 {
-    let x = wide(rows[p]);
+    let x = rows[p] as usize;
     from <= x && x < n
 }
 
@@ -50,7 +54,7 @@ pub fn first_in_columns<P: Fn(usize, usize, usize) -> Option<usize>>(
     ensures { (m : ℕ) (test : ℕ → ℕ → Bool) → Ordered starts.now n m → ((j : ℕ) (r : Option ℕ) → j < n → P.post first j (at starts.now j) (at starts.now (j + 1)) r → r ≡ fault (test j) (at starts.now j) (at starts.now (j + 1))) → result ≡ fault (λ p. test (column_of starts.now n p) p) 0 m }
 {
     for j in 0..n {
-        let found = first(j, wide(starts[j]), wide(starts[j + 1]));
+        let found = first(j, starts[j] as usize, starts[j + 1] as usize);
         if found.is_some() {
             return found;
         }
@@ -70,6 +74,7 @@ pub fn first_row(starts: &[u32], rows: &[u32], n: usize, least: Least) -> Option
 }
 
 // The row at place p is the first of its column, which starts at lo, or above the one before.
+#[tactic(auto, unfolding(tables::specs::Verdict::order_ok))]
 pub fn order_ok(rows: &[u32], lo: usize, p: usize) -> bool
     requires { p < length rows.now }
     ensures { result ≡ order_ok rows.now lo p }
@@ -90,12 +95,13 @@ pub fn first_fall(starts: &[u32], rows: &[u32], n: usize) -> Option<usize>
 }
 
 // The area of the block at place p, in a column that is d wide.
+#[tactic(auto, unfolding(tables::specs::Verdict::block_area))]
 pub fn block_area(dims: &[u32], rows: &[u32], d: usize, p: usize) -> usize
     requires { Sizes dims.now × (d ≤ 16) × (p < length rows.now) × (at rows.now p < length dims.now) }
     ensures { result ≡ block_area dims.now rows.now d p }
 {
-    let x = wide(rows[p]);
-    wide(dims[x]) * d
+    let x = rows[p] as usize;
+    dims[x] as usize * d
 }
 
 // The area of the blocks at lo..hi, a column that is d wide.
@@ -116,11 +122,10 @@ pub fn total_area(dims: &[u32], starts: &[u32], rows: &[u32]) -> usize
     ensures { result ≡ areas dims.now starts.now rows.now }
 {
     let mut s: usize = 0;
-    for j in 0..dims.len() {
-        let d = wide(dims[j]);
-        let lo = wide(starts[j]);
-        let hi = wide(starts[j + 1]);
-        s += column_area(dims, rows, d, lo, hi);
+    for (j, &d) in dims.iter().enumerate() {
+        let lo = starts[j] as usize;
+        let hi = starts[j + 1] as usize;
+        s += column_area(dims, rows, d as usize, lo, hi);
     }
     s
 }

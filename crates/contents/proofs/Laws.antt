@@ -3,17 +3,16 @@
 --     offsets-stop, offsets-go                  the same of 15 for the offsets
 --     sorted_of                                 columns that pass do not fall and are below n
 --     length-starts, starts-at, starts-filled   the starts: how many, the entries, and a list with those entries
---     starts-ordered, starts-done               the starts of columns below n pass 3 of document 01's tables
+--     starts-ordered                            the starts of columns below n are in order
 --     column-of                                 the column of a place, read by the starts, is the entry's own
 --     start-from, area-is, area_small, offset-hits, offset-misses   what the loops that fill the starts and search the offsets go by
 -- Assumes nothing.
-use Rattle.std.specs.Prelude.{◌≡◌, ℕ, zero, suc, ◌+◌, ◌-◌, ◌*◌, ◌<◌, ◌≤◌, Bool, true, false, cond, ◌||◌, eqb, ltb, leb, ◌⊎◌, List, map, length, get_or, Some, None}
+use Rattle.std.specs.Prelude.{◌≡◌, ℕ, zero, suc, ◌+◌, ◌-◌, ◌*◌, ◌<◌, ◌≤◌, Bool, true, false, cond, ltb, leb, List, map, length, get_or, Some, None}
 use Prim.Native.Nat.{zero-le}
-use mathlib.Core.Logic.{inl, inr, ⊎_elim}
+use mathlib.Core.Logic.{⊎_elim}
 use mathlib.Core.Path.{refl, sym, ap, ◌∙◌}
-use native.Mathlib.Numerals.{add-one}
 use native.Mathlib.Omega.{arith}
-use borrow.Author.Tests.{lt-ltb, le-ltb, le-leb, lt-leb, eq-eqb, ne_eqb, ltb-true, ltb-false, leb-true}
+use borrow.Author.Tests.{lt-ltb, le-ltb, eq-eqb, ne_eqb, ltb-true, ltb-false, leb-true}
 use lib.ListN.{length-map, get_or-map}
 use lib.Seq.{ext_get_or}
 use Rattle.graph.specs.Sets.{from}
@@ -21,13 +20,13 @@ use Rattle.refusal.specs.Refusal.{done, refuses, bad_starts, bad_sheet}
 use Rattle.buckets.proofs.Lists.{get_or_any}
 use Rattle.order.proofs.Laws.{length_from, get_or-from}
 use Rattle.tables.specs.Search.{first, first_from, fault}
-use Rattle.tables.specs.Verdict.{at, rises_at, start_ok, starts_check, column_of, block_area, area_at}
+use Rattle.tables.specs.Verdict.{at, column_of, block_area, area_at}
 use Rattle.tables.specs.Sound.{Ordered}
 use Rattle.tables.proofs.Bools.{and_left, and_right}
 use Rattle.tables.proofs.SearchLaws.{lt-or-ge, first-before, first-fails, first_past}
 use Rattle.tables.proofs.ColumnLaws.{column-is}
 use Rattle.tables.proofs.AreaLaws.{area-le}
-use Rattle.tables.proofs.CheckLaws.{fault-stop, fault-go, fault-pass, starts-go}
+use Rattle.tables.proofs.CheckLaws.{fault-stop, fault-go, fault-pass}
 use Rattle.tables.proofs.FaultLaws as faults
 use Rattle.scalars.specs.Bodies.{offset_at}
 use Rattle.contents.specs.Contents.{column_fits, columns_check, before, start_at, starts_from, offset_fits, offsets_check, Sorted, Placed}
@@ -171,31 +170,6 @@ module _ (columns : List ℕ) (n : ℕ) where
         let j = at columns p in
         let b : j < n = s.below p l in
         column-is starts-ordered j p b (omega (arith, starts-at j (omega arith), start-by j p (omega arith))) (omega (arith, starts-at (j + 1) (omega arith), start-past (j + 1) p l (λ q h. omega (arith, s.rising q p h l))))
-
--- starts in order pass 3 of document 01's tables
-module _ (starts : List ℕ) (n m : ℕ) (o : Ordered starts n m) where
-  rises : (k : ℕ) → k ≤ n → rises_at starts k ≡ true
-  unfolding rises_at
-  rises zero h = eq-eqb _ _ o.begins
-  rises (suc j) h =
-      let up : at starts j ≤ at starts (suc j) = rw add-one at (o.rising j (omega arith)) in
-      let back : suc j - 1 ≡ j = omega arith in
-      rw (ne_eqb (suc j) 0 (λ z. omega arith), back) (le-leb _ _ up)
-
-  ends-or-goes : (k : ℕ) → k ≤ n → (ltb k n || eqb (at starts k) m) ≡ true
-  ends-or-goes k h =
-      ⊎_elim (λ (l : k < n). rw (lt-ltb k n l)) (λ (l : n ≤ k). let e : k ≡ n = omega arith in rw (le-ltb k n l) (eq-eqb _ _ (ap (at starts) e ∙ o.ends))) (lt-or-ge k n)
-
-  start-passes : (k : ℕ) → k < n + 2 → start_ok starts n m k ≡ true
-  unfolding start_ok
-  start-passes k h =
-      ⊎_elim (λ (l : k ≤ n). rw (le-leb k n l, lt-ltb k (length starts) (omega (arith, o.entries)), rises k l) (ends-or-goes k l)) (λ (l : n < k). rw (lt-leb k n l) (le-leb (length starts) k (omega (arith, o.entries)))) (le-or-gt k)
-    where
-      le-or-gt : (k : ℕ) → (k ≤ n) ⊎ (n < k)
-      le-or-gt k = ⊎_elim (λ (g : n < k). inr g) (λ g. inl g) (lt-or-ge n k)
-
-  pub starts-done : starts_check starts n m ≡ done
-  starts-done = starts-go starts n m (faults.fault-none (start_ok starts n m) 0 (n + 2) (λ k _ h. start-passes k h))
 
 -- ---- the loops
 

@@ -1,31 +1,27 @@
 // The contents of a sheet, once its tables are unpacked. How a search is made:
 //   NAME_ok      one place of one table: its test in specs/Contents.antt
 //   first_NAME   the first place at which the test fails, if there is one
-// Kept: what is asked of a table or of its length, as a fact of each call: tables of many kinds are lent here, and a struct for one would be built at each call and
-// taken apart at the next.
 ghost use Rattle.std.specs.Prelude.{◌≡◌, ℕ, ◌+◌, ◌*◌, ◌<◌, ◌≤◌, length};
-ghost use Rattle.tables.specs.Search.{first, fault};
+ghost use Rattle.tables.specs.Search.{fault};
 ghost use Rattle.tables.specs.Verdict.{at};
-ghost use Rattle.tables.specs.Sound.{Sizes};
-ghost use Rattle.scalars.specs.Scalars.{scalar_count};
 ghost use Rattle.contents.specs.Contents.{column_fits, before, starts_from, offset_fits, Placed};
 
 use columns::cores::block_area;
-use tables::cores::{first_fault, wide};
+use tables::cores::first_fault;
 
 // The column of entry p is below n, and not below the one before it.
 pub fn column_ok(columns: &[u32], n: usize, p: usize) -> bool
     requires { p < length columns.now }
     ensures { result ≡ column_fits columns.now n p }
 {
-    let x = wide(columns[p]);
+    let x = columns[p] as usize;
     if n <= x {
         return false;
     }
     if p == 0 {
         return true;
     }
-    wide(columns[p - 1]) <= x
+    columns[p - 1] as usize <= x
 }
 
 // 3: the first entry whose column falls or isn't below n.
@@ -35,17 +31,11 @@ pub fn first_column(columns: &[u32], n: usize) -> Option<usize>
     first_fault(0, columns.len(), |p| column_ok(columns, n, p))
 }
 
-// The first entry from `from` on whose column is j or more; the end where there is none.
-pub fn column_start(columns: &[u32], j: usize, from: usize) -> usize
-    requires { from ≤ length columns.now }
-    ensures { result ≡ first (before columns.now j) from (length columns.now) }
+// The first entry from `from` on whose column is j or more, if there is one.
+pub fn column_start(columns: &[u32], j: usize, from: usize) -> Option<usize>
+    ensures { result ≡ fault (before columns.now j) from (length columns.now) }
 {
-    for i in from..columns.len() {
-        if j <= wide(columns[i]) {
-            return i;
-        }
-    }
-    columns.len()
+    first_fault(from, columns.len(), |p| (columns[p] as usize) < j)
 }
 
 // Where each of n columns begins, behind the last the number of entries. Each search goes on where the one before ended.
@@ -54,22 +44,10 @@ pub fn make_starts(columns: &[u32], n: usize, starts: &mut [u32])
     ensures { starts.new ≡ starts_from columns.now n }
 {
     let mut p: usize = 0;
-    for j in 0..starts.len() {
-        p = column_start(columns, j, p);
-        starts[j] = p as u32;
+    for (j, start) in starts.iter_mut().enumerate() {
+        p = column_start(columns, j, p).unwrap_or(columns.len());
+        *start = p as u32;
     }
-}
-
-// How many scalars the blocks have.
-pub fn scalar_count(dims: &[u32]) -> usize
-    requires { Sizes dims.now × (length dims.now ≤ 4096) }
-    ensures { result ≡ scalar_count dims.now }
-{
-    let mut sum: usize = 0;
-    for &dim in dims {
-        sum += wide(dim);
-    }
-    sum
 }
 
 // 15: the first entry whose offset is not where its body lies. The bodies begin at `bodies`, back to back, eight bytes a number.
@@ -84,12 +62,12 @@ pub fn first_offset(
     ensures { result ≡ fault (offset_fits dims.now rows.now columns.now offsets.now bodies) 0 (length offsets.now) }
 {
     let mut sum: usize = 0;
-    for p in 0..offsets.len() {
-        if wide(offsets[p]) != bodies + 8 * sum {
+    for (p, &offset) in offsets.iter().enumerate() {
+        if offset as usize != bodies + 8 * sum {
             return Some(p);
         }
-        let j = wide(columns[p]);
-        sum += block_area(dims, rows, wide(dims[j]), p);
+        let j = columns[p] as usize;
+        sum += block_area(dims, rows, dims[j] as usize, p);
     }
     None
 }

@@ -1,11 +1,10 @@
 // The decomposition where the lengths are known to be right.
-// Kept: how long a slice is, as a fact beside the sizes. Each core is called in one place or two, with sizes and slices as the source has them; a struct that
-// holds a size and its slice would be built anew at each of them, for the one fact that it spares.
+// Kept: how long each slice is, as a fact about sizes that the slices of a call share: structs with sizes of their own would need as many facts, that these agree.
 ghost use Rattle.std.specs.Prelude.{◌≡◌, ◌*◌, length};
 ghost use Rattle.dense_ldlt.specs.Ldlt.{ldlt};
 
 use dense_pivots::LdltResult;
-use dense_pivots::cores::{Pivots, count, result_of};
+use dense_pivots::cores::Pivots;
 use dense_rows::cores::{clear_upper, divide_row, kept_of};
 use scalar::cores::store;
 use scalar::{blank, is_finite};
@@ -46,9 +45,9 @@ pub fn ldlt_decompose_core(
         }
         let kept = kept_of(tolerance, x);
         d[j] = kept;
-        p = count(p, kept);
+        p = p.counted(kept);
         store(a, n, n, j, j, 1.0);
     }
     clear_upper(n, a);
-    Ok(result_of(p))
+    Ok(p.recorded())
 }

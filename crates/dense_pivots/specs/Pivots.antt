@@ -1,6 +1,6 @@
 -- What the stored pivots d of a block say of it. Under a tolerance that passes 10 a pivot that was dropped is stored as 0.0, and no other is, so d tells all.
 -- Assumes nothing.
-use Rattle.std.specs.Prelude.{ℕ, ◌+◌, Bool, true, false, cond, ◌||◌, List, [], ◌∷◌, ◌==◌, slice_index_or}
+use Rattle.std.specs.Prelude.{ℕ, ◌+◌, true, false, cond, ◌||◌, List, [], ◌∷◌, ◌==◌, slice_index_or}
 use Rattle.std.specs.Prelude.{Float}
 use Rattle.std.specs.Float.{nan, binary64}
 use Rattle.std.specs.Float.Ieee.{mul, div, eq, lt}

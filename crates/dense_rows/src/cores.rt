@@ -1,6 +1,5 @@
 // The steps of the decomposition of a block where the lengths are known to be right.
-// Kept: how long a slice is, as a fact beside the sizes. Each core is called in one place or two, with sizes and slices as the source has them; a struct that
-// holds a size and its slice would be built anew at each of them, for the one fact that it spares.
+// Kept: how long each slice is, as a fact about sizes that the slices of a call share: structs with sizes of their own would need as many facts, that these agree.
 ghost use Rattle.std.specs.Prelude.{◌≡◌, ◌*◌, ◌<◌, ◌≤◌, length};
 ghost use Rattle.dense_rows.specs.Row.{reduced_entry, divided_by, divided_row, pivot_of, stored, clear_upper};
 

@@ -1,6 +1,5 @@
 // The solve where the lengths are known to be right, and the checks of the lengths.
-// Kept: how long a slice is, as a fact beside the sizes. Each core is called in one place or two, with sizes and slices as the source has them; a struct that
-// holds a size and its slice would be built anew at each of them, for the one fact that it spares.
+// Kept: how long each slice is, as a fact about sizes that the slices of a call share: structs with sizes of their own would need as many facts, that these agree.
 ghost use Rattle.std.specs.Prelude.{◌≡◌, ◌*◌, length, OnOk};
 ghost use Rattle.refusal.specs.Shaped.{told};
 ghost use Rattle.dense_solve_right.specs.SolveRight.{ldlt_right_matsolve, right_verdict};

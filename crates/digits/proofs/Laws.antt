@@ -1,15 +1,14 @@
 -- The laws of texts in a buffer.
 --     length_digits                      how many digits there are
 --     length-written, puts_then          how long the buffer is; two texts, one behind the other, are one
---     spelt-more, spelt-all              digits written from the last to the first
---     few-places, more-places            what the search for the number of digits goes by
+--     spelt-more                         one digit more, from the last to the first
 -- Assumes nothing.
 use Rattle.std.specs.Prelude.{◌≡◌, ℕ, zero, suc, ◌+◌, ◌/◌, ◌%◌, ◌<◌, ◌≤◌, List, [], ◌∷◌, ◌++◌, length, take, drop, set}
 use mathlib.Core.List.{append_assoc, append-nil}
 use mathlib.Core.Path.{refl, sym, ap, ap₂, ◌∙◌}
 use native.Mathlib.Omega.{arith}
 use lib.ListN.{length-append, length-drop, take-append-drop}
-use lib.Seq.{drop-cons, drop-append-add, take_at, take-set-le, drop-set-lt, get_or-set_same, length-take-le, append_snoc, drop-drop, lt-length-set}
+use lib.Seq.{drop-cons, drop-append-add, take_at, drop-set-lt, get_or-set_same, length-take-le, append_snoc, drop-drop, lt-length-set}
 use Rattle.digits.specs.Digits.{digit, digits, written, Puts}
 
 pub length_digits : (base k n : ℕ) → length (digits base k n) ≡ k
@@ -52,28 +51,15 @@ puts_then {at} {r} {r'} {text} {more} {out} {out'} {out''} p q h =
 
 -- ---- digits, from the last to the first
 
-module _ (at base : ℕ) (out : List ℕ) where
-  -- what is written, and what is left of the number, is the whole
-  abbrev pub spelt : ℕ → ℕ → List ℕ
-  spelt i rest = take at out ++ digits base i rest ++ drop (at + i) out
+-- what is written, and what is left of the number, is the whole
+abbrev pub spelt : (base : ℕ) → List ℕ → (i rest : ℕ) → List ℕ
+spelt base out i rest = digits base i rest ++ drop i out
 
-module _ (at base i rest : ℕ) (out : List ℕ) (h : at + i < length out) where
-  stored : drop (at + i) (set out (at + i) (digit (rest % base))) ≡ digit (rest % base) ∷ drop (at + suc i) out
-  stored =
-      let v = digit (rest % base) in
-      let e : suc (at + i) ≡ at + suc i = omega arith in
-      drop-cons (set out (at + i) v) (at + i) 0 (lt-length-set out (at + i) v h)
-      ∙ ap₂ (λ (x : ℕ) (l : List ℕ). x ∷ l) (get_or-set_same out (at + i) v 0 h) (drop-set-lt (suc (at + i)) out (at + i) v (omega arith) ∙ ap (λ (k : ℕ). drop k out) e)
-
-  pub spelt-more : spelt at base (set out (at + i) (digit (rest % base))) i (rest / base) ≡ spelt at base out (suc i) rest
-  unfolding digits
-  spelt-more =
-      let v = digit (rest % base) in
-      ap₂ (λ (x y : List ℕ). x ++ digits base i (rest / base) ++ y) (take-set-le at out (at + i) v (omega arith)) stored
-      ∙ sym (append_snoc (take at out ++ digits base i (rest / base)) v (drop (at + suc i) out))
-      ∙ ap (λ (l : List ℕ). l ++ drop (at + suc i) out) (append_assoc (take at out) (digits base i (rest / base)) (v ∷ []))
-
--- all are written
-pub spelt-all : (at base rest : ℕ) (out : List ℕ) → spelt at base out 0 rest ≡ out
+pub spelt-more : (base i rest : ℕ) (out : List ℕ) → i < length out → spelt base (set out i (digit (rest % base))) i (rest / base) ≡ spelt base out (suc i) rest
 unfolding digits
-spelt-all at base rest out = written_none at out
+spelt-more base i rest out h =
+    let v = digit (rest % base) in
+    ap (λ (y : List ℕ). digits base i (rest / base) ++ y)
+    (drop-cons (set out i v) i 0 (lt-length-set out i v h)
+    ∙ ap₂ (λ (x : ℕ) (l : List ℕ). x ∷ l) (get_or-set_same out i v 0 h) (drop-set-lt (suc i) out i v (omega arith)))
+    ∙ sym (append_snoc (digits base i (rest / base)) v (drop (suc i) out))

@@ -3,6 +3,7 @@ use Rattle.std.specs.Prelude.{◌≡◌, ℕ, zero, suc, ◌+◌, ◌/◌, ◌%�
 use Rattle.std.specs.Prelude.{Float}
 use Rattle.std.specs.Float.{binary64}
 use Rattle.tables.specs.Search.{first}
+use Rattle.digits.specs.declared.cores.Writer.{Writer}
 
 -- a digit below 16: 0 to 9, then A to F
 abbrev pub digit : ℕ → ℕ
@@ -39,3 +40,8 @@ written at text out = take at out ++ text ++ drop (at + length text) out
 pub record Puts (at : ℕ) (text out : List ℕ) (r : ℕ) (out' : List ℕ) : Type 0 where
   pub next : r ≡ at + length text
   pub text' : out' ≡ written at text out
+
+-- the same in a writer, whose buffer is still the one that was lent
+pub record Writes (text : List ℕ) (w w' : Writer) : Type 0 where
+  pub puts : Puts w.at text w.out.now w'.at w'.out.now
+  pub same : w'.out.ghost_name ≡ w.out.ghost_name

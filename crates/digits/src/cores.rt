@@ -1,16 +1,54 @@
-// Each function writes at a place of a lent buffer that has the room, and answers the place behind what it wrote.
+// Digits, and texts written one behind the other into a lent buffer that has the room.
 ghost use Rattle.std.specs.Prelude.{◌≡◌, ◌+◌, ◌<◌, ◌≤◌, length};
-ghost use Rattle.digits.specs.Digits.{digit as Digits·digit, digits, places as Digits·places, decimal, hex16, bits_of, written, Puts};
+ghost use Rattle.digits.specs.Digits.{digit as Digits·digit, digits, places as Digits·places, decimal, hex16, bits_of, Writes};
 
-// A text.
-pub fn put_text(out: &mut [u8], at: usize, text: &[u8]) -> usize
-    requires { at + length text.now ≤ length out.old }
-    ensures { Puts at text.now out.old result out.new }
-{
-    for i in 0..text.len() {
-        out[at + i] = text[i];
+// A lent buffer, and how far it is written.
+#[derive(Drop)]
+pub struct Writer<'a> {
+    pub out: &'a mut [u8],
+    pub at: usize,
+}
+
+impl Writer<'_> {
+    // A text.
+    pub fn text(&mut self, text: &[u8])
+        requires { self.old.at + length text.now ≤ length self.old.out.now }
+        ensures { Writes text.now self.old self.new }
+    {
+        let from = self.at;
+        let to = from + text.len();
+        let out = &mut *self.out;
+        out[from..to].copy_from_slice(text);
+        self.at = to;
     }
-    at + text.len()
+
+    // n in decimal, with no leading zeros.
+    pub fn decimal(&mut self, n: u64)
+        requires { self.old.at + length (decimal n) ≤ length self.old.out.now }
+        ensures { Writes (decimal n) self.old self.new }
+    {
+        self.digits(10, places(n), n);
+    }
+
+    // Sixteen hexadecimal digits.
+    pub fn hex(&mut self, bits: u64)
+        requires { self.old.at + 16 ≤ length self.old.out.now }
+        ensures { Writes (hex16 bits) self.old self.new }
+    {
+        self.digits(16, 16, bits);
+    }
+
+    // The last k digits of n.
+    fn digits(&mut self, base: u64, k: usize, n: u64)
+        requires { (0 < base) × (base ≤ 16) × (self.old.at + k ≤ length self.old.out.now) }
+        ensures { Writes (digits base k n) self.old self.new }
+    {
+        let from = self.at;
+        let to = from + k;
+        let out = &mut *self.out;
+        spell(&mut out[from..to], base, n);
+        self.at = to;
+    }
 }
 
 // The ASCII code of a digit.
@@ -21,14 +59,14 @@ pub fn digit(d: u64) -> u8
     if d < 10 { 48 + d as u8 } else { 55 + d as u8 }
 }
 
-// The last k digits of n, from the last to the first.
-pub fn spell(out: &mut [u8], at: usize, base: u64, k: usize, n: u64)
-    requires { (0 < base) × (base ≤ 16) × (at + k ≤ length out.old) }
-    ensures { out.new ≡ written at (digits base k n) out.old }
+// The last digits of n, as many as there are places, from the last to the first.
+pub fn spell(out: &mut [u8], base: u64, n: u64)
+    requires { (0 < base) × (base ≤ 16) }
+    ensures { out.new ≡ digits base (length out.old) n }
 {
     let mut rest = n;
-    for i in (0..k).rev() {
-        out[at + i] = digit(rest % base);
+    for i in (0..out.len()).rev() {
+        out[i] = digit(rest % base);
         rest /= base;
     }
 }
@@ -47,31 +85,12 @@ pub fn places(n: u64) -> usize
     20
 }
 
-// n in decimal, with no leading zeros.
-pub fn put_decimal(out: &mut [u8], at: usize, n: u64) -> usize
-    requires { at + length (decimal n) ≤ length out.old }
-    ensures { Puts at (decimal n) out.old result out.new }
-{
-    let k = places(n);
-    spell(out, at, 10, k, n);
-    at + k
-}
-
-// Sixteen hexadecimal digits.
-pub fn put_hex(out: &mut [u8], at: usize, bits: u64) -> usize
-    requires { at + 16 ≤ length out.old }
-    ensures { Puts at (hex16 bits) out.old result out.new }
-{
-    spell(out, at, 16, 16, bits);
-    at + 16
-}
-
 // The bits of x; of every NaN those of document 01's.
 pub fn bits_of(x: f64) -> u64
     ensures { result ≡ bits_of x }
 {
-    if x != x {
+    if x.is_nan() {
         return 0x7ff8_0000_0000_0000;
     }
-    f64::to_bits(x)
+    x.to_bits()
 }

@@ -1,4 +1,4 @@
-// Bytes, decimal and hexadecimal numbers written into a lent buffer.
+// Texts, decimal and hexadecimal numbers written into a lent buffer.
 #![tactic(auto)]
 
 pub mod cores;

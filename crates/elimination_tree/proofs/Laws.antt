@@ -1,12 +1,12 @@
 -- Tables of u32 as Liu's tables, and Liu's walk by its first step. Assumes nothing.
-use Rattle.std.specs.Prelude.{◌≡◌, ℕ, zero, suc, ◌+◌, ◌-◌, ◌<◌, ◌≤◌, Bool, true, false, eqb, ltb, List, [], ◌∷◌, map, length, get_or, set}
+use Rattle.std.specs.Prelude.{ℕ, zero, suc, Bool, true, false, eqb, ltb, List, [], map, drop, length, get_or, set, ◌≡◌, ◌+◌, ◌-◌, ◌<◌, ◌≤◌, ◌∷◌}
 use mathlib.Core.Path.{refl, sym, ap, ◌∙◌}
 use mathlib.Core.Option.{Option, none, some}
 use native.Mathlib.Omega.{arith}
 use native.Mathlib.Numerals.{add-one, sub-one}
 use borrow.Author.Tests.{eq-eqb, ne_eqb, lt-ltb, le-ltb, eqb-true}
-use lib.ListN.{get_or-map}
-use lib.Seq.{slice, slice-cons, slice_empty}
+use lib.ListN.{get_or-map, drop_of_length-le}
+use lib.Seq.{drop-cons}
 use Rattle.graph.specs.Sets.{keep, filter}
 use Rattle.buckets.proofs.Lists.{map-set, get_or_any}
 use Rattle.graph.specs.Liu.{Forest, ancestor_of, passed, rooted, walk, walks}
@@ -66,18 +66,18 @@ walk-pass j (suc s) i a f p n e = rw (sub-one (suc s), ne_eqb i j n, walk, e)
 
 -- ---- the walks of a column, by its first row
 
-module _ (j : ℕ) (rows : List ℕ) (q to : ℕ) (f : Forest) where
-  pub rows_end : to ≤ q → q ≤ to → walks j (filter (λ i. ltb i j) (slice q to rows)) f ≡ f
+module _ (j : ℕ) (rows : List ℕ) (q : ℕ) (f : Forest) where
+  pub rows_end : length rows ≤ q → walks j (filter (λ i. ltb i j) (drop q rows)) f ≡ f
   unfolding walks
-  rows_end h k = let e : q ≡ to = omega arith in rw (e, slice_empty to rows)
+  rows_end h = rw (drop_of_length-le rows h)
 
-  module _ (h : q < to) (k : to ≤ length rows) where
-    first : filter (λ i. ltb i j) (slice q to rows) ≡ keep (ltb (get_or rows q 0) j) (get_or rows q 0) (filter (λ i. ltb i j) (slice (q + 1) to rows))
-    first = ap (filter (λ i. ltb i j)) (slice-cons q to rows 0 h k) ∙ ap (λ (m : ℕ). keep (ltb (get_or rows q 0) j) (get_or rows q 0) (filter (λ i. ltb i j) (slice m to rows))) (sym (add-one q))
+  module _ (h : q < length rows) where
+    first : filter (λ i. ltb i j) (drop q rows) ≡ keep (ltb (get_or rows q 0) j) (get_or rows q 0) (filter (λ i. ltb i j) (drop (q + 1) rows))
+    first = ap (filter (λ i. ltb i j)) (drop-cons rows q 0 h) ∙ ap (λ (m : ℕ). keep (ltb (get_or rows q 0) j) (get_or rows q 0) (filter (λ i. ltb i j) (drop m rows))) (sym (add-one q))
 
-    pub row-walks : get_or rows q 0 < j → walks j (filter (λ i. ltb i j) (slice q to rows)) f ≡ walks j (filter (λ i. ltb i j) (slice (q + 1) to rows)) (walk j j (get_or rows q 0) f)
+    pub row-walks : get_or rows q 0 < j → walks j (filter (λ i. ltb i j) (drop q rows)) f ≡ walks j (filter (λ i. ltb i j) (drop (q + 1) rows)) (walk j j (get_or rows q 0) f)
     unfolding walks
-    row-walks l = ap (λ (r : List ℕ). walks j r f) (first ∙ ap (λ (b : Bool). keep b (get_or rows q 0) (filter (λ i. ltb i j) (slice (q + 1) to rows))) (lt-ltb (get_or rows q 0) j l))
+    row-walks l = ap (λ (r : List ℕ). walks j r f) (first ∙ ap (λ (b : Bool). keep b (get_or rows q 0) (filter (λ i. ltb i j) (drop (q + 1) rows))) (lt-ltb (get_or rows q 0) j l))
 
-    pub row-skips : j ≤ get_or rows q 0 → walks j (filter (λ i. ltb i j) (slice q to rows)) f ≡ walks j (filter (λ i. ltb i j) (slice (q + 1) to rows)) f
-    row-skips l = ap (λ (r : List ℕ). walks j r f) (first ∙ ap (λ (b : Bool). keep b (get_or rows q 0) (filter (λ i. ltb i j) (slice (q + 1) to rows))) (le-ltb (get_or rows q 0) j l))
+    pub row-skips : j ≤ get_or rows q 0 → walks j (filter (λ i. ltb i j) (drop q rows)) f ≡ walks j (filter (λ i. ltb i j) (drop (q + 1) rows)) f
+    row-skips l = ap (λ (r : List ℕ). walks j r f) (first ∙ ap (λ (b : Bool). keep b (get_or rows q 0) (filter (λ i. ltb i j) (drop (q + 1) rows))) (le-ltb (get_or rows q 0) j l))

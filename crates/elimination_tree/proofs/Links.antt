@@ -1,5 +1,5 @@
 -- An upper pattern and its links; Liu's algorithm over the columns is Liu's algorithm over the links; and what its table of u32 says. Assumes nothing.
-use Rattle.std.specs.Prelude.{◌≡◌, ℕ, zero, suc, ◌+◌, ◌<◌, ◌≤◌, min, max, Bool, T, ltb, ◌⊎◌, List, map, length, get_or}
+use Rattle.std.specs.Prelude.{ℕ, zero, suc, min, max, Bool, T, ltb, List, map, length, get_or, ◌≡◌, ◌+◌, ◌<◌, ◌≤◌, ◌⊎◌}
 use mathlib.Core.Path.{refl, sym, ap, subst, ◌∙◌}
 use mathlib.Core.Logic.{inl, inr}
 use mathlib.Core.Option.{Option, none, some}

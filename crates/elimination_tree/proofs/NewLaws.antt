@@ -1,5 +1,5 @@
 -- What an upper pattern that passes gives the work, and what `new` answers in each case. Assumes nothing.
-use Rattle.std.specs.Prelude.{◌≡◌, ℕ, ◌+◌, ◌<◌, ◌≤◌, Bool, true, cond, T, ltb, List, [], ◌∷◌, ◌++◌, length, get_or, drop, replicate, Result, Ok, Err}
+use Rattle.std.specs.Prelude.{ℕ, Bool, true, cond, T, ltb, List, length, get_or, drop, replicate, Result, Ok, Err, ◌≡◌, ◌+◌, ◌<◌, ◌≤◌, ◌++◌}
 use Rattle.std.specs.Result.{IsErr, IsErrAnd}
 use mathlib.Core.Bool.{false≢true}
 use mathlib.Core.Path.{refl, sym, ap, subst, ◌∙◌}
@@ -9,21 +9,17 @@ use Rattle.graph.specs.Tree.{Parent}
 use Rattle.graph.proofs.SetLaws.{filter-inc}
 use Rattle.graph.proofs.Whole.{parent-of-least}
 use Rattle.buckets.proofs.Lists.{front}
-use Rattle.refusal.specs.Refusal.{Told, done, short_buffer, refuses, verdict, verdict_after, after}
-use Rattle.refusal.specs.Check.{need_check}
-use Rattle.refusal.proofs.Laws.{stays-refused, need-short, need-met}
+use Rattle.refusal.specs.Refusal.{Told, done, refuses, verdict, verdict_after, after}
+use Rattle.refusal.proofs.Laws.{stays-refused}
 use Rattle.tables.specs.Verdict.{upper_verdict}
 use Rattle.tables.specs.Sound.{UpperSound}
-use Rattle.elimination_tree.specs.Tree.{decode, Pattern, Ascends, linked_up, parents_of}
+use Rattle.elimination_tree.specs.Tree.{decode, Ascends, linked_up, parents_of}
 use Rattle.elimination_tree.specs.New.{told, told_error, needs, new_verdict, Grows}
 use Rattle.elimination_tree.specs.declared.TreeError.{TreeError}
 use Rattle.elimination_tree.specs.declared.TreeError.TheVariants.{Blocks, Starts, Row, Order, Short}
 use Rattle.elimination_tree.proofs.Links.{linked-symm, parents-length, parents-least}
 
 -- ---- a pattern that passes
-
-pub as-pattern : (n : ℕ) (starts rows : List ℕ) → UpperSound n starts rows → Pattern n starts rows
-as-pattern n starts rows u = record { few = u.blocks; count = u.columns.ordered.entries; rising = u.columns.ordered.rising; inside = u.columns.ordered.inside }
 
 pub as-ascends : (n : ℕ) (starts rows : List ℕ) → UpperSound n starts rows → Ascends n starts rows
 unfolding Ascends
@@ -33,17 +29,6 @@ as-ascends n starts rows u j below =
     filter-inc (λ i. ltb i j) (slice from to rows) (u.columns.increasing j below)
 
 -- ---- the buffers' needs
-
-pub parents-short : (n parents ancestors : ℕ) → parents < n → verdict (needs n parents ancestors) ≡ short_buffer 0 n
-parents-short n parents ancestors h = ap (λ (t : Told). verdict_after t (need_check 1 ancestors n ∷ [])) (need-short 0 parents n h)
-
-pub ancestors-short : (n parents ancestors : ℕ) → n ≤ parents → ancestors < n → verdict (needs n parents ancestors) ≡ short_buffer 1 n
-ancestors-short n parents ancestors p h =
-    ap (λ (t : Told). verdict_after t (need_check 1 ancestors n ∷ [])) (need-met 0 parents n p) ∙ need-short 1 ancestors n h
-
-pub needs-met : (n parents ancestors : ℕ) → n ≤ parents → n ≤ ancestors → verdict (needs n parents ancestors) ≡ done
-needs-met n parents ancestors p h =
-    ap (λ (t : Told). verdict_after t (need_check 1 ancestors n ∷ [])) (need-met 0 parents n p) ∙ need-met 1 ancestors n h
 
 -- ---- the answer in each case
 

@@ -1,12 +1,12 @@
 -- The invariants of the three loops, as records, and a law for each way through them: how each begins, turns and ends. Assumes nothing.
-use Rattle.std.specs.Prelude.{◌≡◌, ℕ, ◌+◌, ◌-◌, ◌<◌, ◌≤◌, ltb, ◌⊎◌, List, map, length, get_or, set, replicate}
+use Rattle.std.specs.Prelude.{ℕ, ltb, List, map, drop, length, get_or, set, replicate, ◌≡◌, ◌+◌, ◌-◌, ◌<◌, ◌≤◌, ◌⊎◌}
 use mathlib.Core.Path.{refl, sym, ap, subst, ◌∙◌}
 use mathlib.Core.Logic.{inl, inr, ⊎_elim}
 use mathlib.Core.Option.{Option}
 use native.Mathlib.Omega.{arith}
 use native.Mathlib.Numerals.{add-one}
 use lib.ListN.{length-set, length-replicate, get_or-replicate}
-use lib.Seq.{slice, get_or-set_same, get_or-set_other}
+use lib.Seq.{get_or-set_same, get_or-set_other}
 use Rattle.buckets.proofs.Lists.{same?, map-replicate}
 use Rattle.graph.specs.Sets.{filter}
 use Rattle.graph.specs.Liu.{Forest, walk, walks}
@@ -76,30 +76,30 @@ module _ (j start : ℕ) (p₀ a₀ p a : List ℕ) (i : ℕ) (w : Walking j sta
 
 -- ---- the column: at the head of its loop
 
-pub record Scanning (j : ℕ) (rows : List ℕ) (from to : ℕ) (p₀ a₀ p a : List ℕ) (q : ℕ) : Type 0 where
+pub record Scanning (j : ℕ) (rows : List ℕ) (p₀ a₀ p a : List ℕ) (q : ℕ) : Type 0 where
   pub sizes : (length p ≡ length p₀) × (length a ≡ length a₀)
   pub rule : Climbs j a
-  pub inside : q ≤ to
-  pub same : walks j (filter (λ i. ltb i j) (slice from to rows)) (as_forest p₀ a₀) ≡ walks j (filter (λ i. ltb i j) (slice q to rows)) (as_forest p a)
+  pub inside : q ≤ length rows
+  pub same : walks j (filter (λ i. ltb i j) rows) (as_forest p₀ a₀) ≡ walks j (filter (λ i. ltb i j) (drop q rows)) (as_forest p a)
 
-module _ (j : ℕ) (rows : List ℕ) (from to : ℕ) (p₀ a₀ p a : List ℕ) (q : ℕ) (s : Scanning j rows from to p₀ a₀ p a q) where
-  module _ (h : q < to) (k : to ≤ length rows) where
+module _ (j : ℕ) (rows : List ℕ) (p₀ a₀ p a : List ℕ) (q : ℕ) (s : Scanning j rows p₀ a₀ p a q) where
+  module _ (h : q < length rows) where
     -- a row below j, after its climb
     pub scan-climbs : (p' a' : List ℕ) → get_or rows q 0 < j → (length p' ≡ length p) × (length a' ≡ length a) → Climbs j a'
-        → as_forest p' a' ≡ walk j j (get_or rows q 0) (as_forest p a) → Scanning j rows from to p₀ a₀ p' a' (q + 1)
+        → as_forest p' a' ≡ walk j j (get_or rows q 0) (as_forest p a) → Scanning j rows p₀ a₀ p' a' (q + 1)
     scan-climbs p' a' l sizes' rule' e = record {
       sizes = (sizes'.0 ∙ s.sizes.0, sizes'.1 ∙ s.sizes.1);
       rule = rule';
       inside = omega arith;
-      same = s.same ∙ row-walks j rows q to (as_forest p a) h k l ∙ ap (walks j (filter (λ i. ltb i j) (slice (q + 1) to rows))) (sym e);
+      same = s.same ∙ row-walks j rows q (as_forest p a) h l ∙ ap (walks j (filter (λ i. ltb i j) (drop (q + 1) rows))) (sym e);
     }
 
     -- a row that is not below j
-    pub scan-skips : j ≤ get_or rows q 0 → Scanning j rows from to p₀ a₀ p a (q + 1)
-    scan-skips l = record { sizes = s.sizes; rule = s.rule; inside = omega arith; same = s.same ∙ row-skips j rows q to (as_forest p a) h k l }
+    pub scan-skips : j ≤ get_or rows q 0 → Scanning j rows p₀ a₀ p a (q + 1)
+    scan-skips l = record { sizes = s.sizes; rule = s.rule; inside = omega arith; same = s.same ∙ row-skips j rows q (as_forest p a) h l }
 
-  pub scan-ends : to ≤ q → as_forest p a ≡ walks j (filter (λ i. ltb i j) (slice from to rows)) (as_forest p₀ a₀)
-  scan-ends h = sym (s.same ∙ rows_end j rows q to (as_forest p a) h s.inside)
+  pub scan-ends : length rows ≤ q → as_forest p a ≡ walks j (filter (λ i. ltb i j) rows) (as_forest p₀ a₀)
+  scan-ends h = sym (s.same ∙ rows_end j rows q (as_forest p a) h)
 
 -- ---- the tree: at the head of the loop over the columns
 

@@ -1,8 +1,6 @@
 // The elimination tree of a symmetric matrix from its upper pattern: Liu's algorithm with path compression (`EliminationTree::new`).
 // Tables of u32; none is NONE. One loop to a function.
-// Kept: what is asked of a single number, a place or a count, as a fact of the one call that has it.
 ghost use Rattle.std.specs.Prelude.{◌≡◌, ℕ, ◌+◌, ◌<◌, ◌≤◌, length, nat_lt};
-ghost use Rattle.std.proofs.Math.Seq.{slice};
 ghost use Rattle.graph.specs.Sets.{filter};
 ghost use Rattle.graph.specs.Liu.{Forest, walk, walks};
 ghost use Rattle.elimination_tree.specs.Tree.{as_forest, Climbs, Pattern, Ascends, linked_up, parents_of};
@@ -30,16 +28,14 @@ fn climb(parent: &mut [u32], ancestor: &mut [u32], j: u32, start: u32)
     }
 }
 
-// Column j: a climb from each row below j, of the rows from `from` to `to`.
-fn column(parent: &mut [u32], ancestor: &mut [u32], rows: &[u32], from: usize, to: usize, j: u32)
+// Column j: a climb from each of its rows that is below j.
+fn column(parent: &mut [u32], ancestor: &mut [u32], rows: &[u32], j: u32)
     requires parent_len { (length parent.old ≡ length ancestor.old) × (j < length ancestor.old) × (j < 4096) }
-    requires from_le_to { (from ≤ to) × (to ≤ length rows.now) }
     requires climbs { Climbs j ancestor.old }
-    ensures ancestor_after { as_forest parent.new ancestor.new ≡ walks j (filter (λ i. nat_lt i j) (slice from to rows.now)) (as_forest parent.old ancestor.old) }
+    ensures ancestor_after { as_forest parent.new ancestor.new ≡ walks j (filter (λ i. nat_lt i j) rows.now) (as_forest parent.old ancestor.old) }
     ensures climbs_2 { Climbs j ancestor.new }
 {
-    for q in from..to {
-        let i = rows[q];
+    for &i in rows {
         if i < j {
             climb(parent, ancestor, j, i);
         }
@@ -53,12 +49,12 @@ pub fn new_core(starts: &[u32], rows: &[u32], parent: &mut [u32], ancestor: &mut
     requires ancestor_len { length ancestor.old ≡ length parent.old }
     ensures { parent.new ≡ parents_of (linked_up starts.now rows.now) (length parent.old) }
 {
-    buckets::cores::fill(parent, NONE);
-    buckets::cores::fill(ancestor, NONE);
+    parent.fill(NONE);
+    ancestor.fill(NONE);
     let n = parent.len();
     for j in 0..n {
-        let from = starts[j];
-        let to = starts[j + 1];
-        column(parent, ancestor, rows, from as usize, to as usize, j as u32);
+        let from = starts[j] as usize;
+        let to = starts[j + 1] as usize;
+        column(parent, ancestor, &rows[from..to], j as u32);
     }
 }

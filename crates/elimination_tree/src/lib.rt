@@ -5,11 +5,13 @@ pub mod cores;
 
 ghost use Rattle.tables.specs.Sound.{UpperSound};
 ghost use Rattle.refusal.specs.Refusal.{verdict};
+ghost use Rattle.needs.specs.Needs.{told_error as told_short};
 ghost use Rattle.std.specs.Prelude.{◌≡◌, length};
 ghost use Rattle.upper_checks.specs.Outcome.{told_upper_error};
 ghost use Rattle.elimination_tree.specs.New.{told_error, needs, new_verdict, Grows};
 
 use crate::cores::new_core;
+use needs::{ShortBuffer, first_short};
 use refusal::Refusal;
 use upper_checks::{UpperError, check_upper};
 
@@ -43,6 +45,7 @@ impl Refusal for TreeError {
 }
 
 // A pattern that is refused refuses the tree in the same words.
+// Kept: each call's error has just that call's cases, as document 01 lists them, so each goes into the next case by case.
 impl From<UpperError> for TreeError {
     ghost from_gives = { λ e r. told_error r ≡ told_upper_error e };
 
@@ -52,6 +55,17 @@ impl From<UpperError> for TreeError {
             UpperError::Starts { place } => TreeError::Starts { place },
             UpperError::Row { place } => TreeError::Row { place },
             UpperError::Order { place } => TreeError::Order { place },
+        }
+    }
+}
+
+impl From<ShortBuffer> for TreeError {
+    ghost from_gives = { λ e r. told_error r ≡ told_short e };
+
+    fn from(e: ShortBuffer) -> TreeError {
+        TreeError::Short {
+            which: e.which,
+            need: e.need,
         }
     }
 }
@@ -82,13 +96,8 @@ fn grown_core(
     requires { UpperSound n starts.now rows.now }
     ensures { Grows (verdict (needs n (length parents.old) (length ancestors.old))) n starts.now rows.now parents.old ancestors.old result parents.new ancestors.new }
 {
-    if parents.len() < n {
-        return Err(TreeError::Short { which: 0, need: n });
-    }
-    if ancestors.len() < n {
-        return Err(TreeError::Short { which: 1, need: n });
-    }
+    first_short(&[parents.len(), ancestors.len()], &[n, n])?;
     new_core(starts, rows, &mut parents[..n], &mut ancestors[..n]);
-    buckets::cores::fill(&mut ancestors[..n], 0);
+    ancestors[..n].fill(0);
     Ok(())
 }

@@ -7,7 +7,7 @@ ghost use Rattle.factor_core.specs.Cache.{handed_in, FactorsKept};
 use checks::check_system;
 use factor_core::{Counts, FactorizeError, Outputs, Scratch};
 use factor_room::cores::lent_core;
-use factor_setup::System;
+use factor_setup::{Passed, System};
 
 // The tables are tested, then what is lent, then the factor is made. The cache's need is at most `scale` × (1 + the entries and numbers handed
 // in).
@@ -25,7 +25,9 @@ pub fn factor_checked(
 {
     check_system(s.dims, s.starts, s.rows, s.values, s.perm, s.late, s.tol)?;
     let most = kept_bound(s, scale);
-    lent_core(s, o, w, most, cache)
+    let system = *s;
+    let passed = Passed { system };
+    lent_core(&passed, o, w, most, cache)
 }
 
 // `scale` × (1 + the entries and numbers handed in).

@@ -50,10 +50,7 @@ exact-after w n xs new ys e p = p ∙ ap (λ (l : List _). after w xs l) (exact 
 cleared-of : (n m : ℕ) (xs ys : List ℕ) → length xs ≡ n → m ≡ n → ys ≡ replicate m 0 → ys ≡ cleared n xs
 cleared-of n m xs ys e f p = p ∙ ap (λ (k : ℕ). replicate k 0) f ∙ exact n xs (replicate n 0) e
 
--- the same, by the length before
-pub zero_of : {n m : ℕ} {ys : List ℕ} → ys ≡ replicate m 0 → m ≡ n → ys ≡ replicate n 0
-zero_of p e = p ∙ ap (λ (k : ℕ). replicate k 0) e
-
+-- the same of numbers, by the length before
 pub noughts-of : {n m : ℕ} {ys : List Float} → ys ≡ zeros m → m ≡ n → ys ≡ zeros n
 noughts-of p e = p ∙ ap zeros e
 

@@ -1,10 +1,8 @@
 // The factorization where the night's tables have passed and each buffer but L's rows, offsets and values and the cache
 // has exactly its need, its scratch cleared at the end.
-// Kept: that the system has passed, as a fact: from `factor_room` down these crates are one call cut in pieces, and a struct around the system would be opened in each.
 ghost use Rattle.std.specs.Prelude.{◌≡◌, length, replicate};
 ghost use Rattle.scalar.specs.Block.{zeros};
 ghost use Rattle.refusal.specs.Refusal.{done};
-ghost use Rattle.tables.specs.Sound.{SystemSound};
 ghost use Rattle.scratch.specs.Scratch.{SameScratch};
 ghost use Rattle.factor_setup.specs.Exact.{handed};
 ghost use Rattle.factor_setup.specs.Lent.{SameOutputs, SameWork};
@@ -13,22 +11,21 @@ ghost use Rattle.factor_core.specs.Cache.{FactorsKept};
 
 use factor_core::{Counts, FactorizeError, Outputs};
 use factor_fit::cores::fit;
-use factor_setup::{System, Work};
+use factor_setup::{Passed, Work};
 use scratch::Scratch;
 use scratch::cores::clear_plan;
 
 // The factorization, all scratch cleared at its end.
 pub fn factored_core(
-    s: &System,
+    s: &Passed,
     o: &mut Outputs,
     p: &mut Scratch,
     w: &mut Work,
     most: usize,
     cache: &mut [f64],
 ) -> Result<Counts, FactorizeError>
-    requires system_sound { SystemSound s.now.dims.now s.now.starts.now s.now.rows.now s.now.values.now s.now.perm.now s.now.late.now s.now.tol }
-    requires exact { Exact (handed s.now) (lent_in o.old p.old w.old) }
-    ensures kept { FactorsKept done most (handed s.now) (lent_in o.old p.old w.old) cache.old result (lent_in o.new p.new w.new) cache.new }
+    requires exact { Exact (handed s.now.system) (lent_in o.old p.old w.old) }
+    ensures kept { FactorsKept done most (handed s.now.system) (lent_in o.old p.old w.old) cache.old result (lent_in o.new p.new w.new) cache.new }
     ensures outputs { SameOutputs o.old o.new }
     ensures scratch { SameScratch p.old p.new }
     ensures work { SameWork w.old w.new }
@@ -49,8 +46,8 @@ fn clear_work(w: &mut Work)
     ensures same { SameWork w.old w.new }
 {
     scalar::clear(w.column);
-    buckets::cores::fill(w.bodies, 0);
-    buckets::cores::fill(w.unit_starts, 0);
-    buckets::cores::fill(w.d_starts, 0);
-    buckets::cores::fill(w.places, 0);
+    w.bodies.fill(0);
+    w.unit_starts.fill(0);
+    w.d_starts.fill(0);
+    w.places.fill(0);
 }

@@ -17,6 +17,7 @@ use work_column::cores::{Scratch, work_column};
 
 // Column j of the factor of A. The cache keeps Q of the finished columns, as far as it is long enough. The answer is the number of products of
 // all columns so far.
+// Kept: the count is handed on to `work_column`, and the answer is that of all columns, which is what the loop over them keeps.
 pub fn factor_column(
     a: &Matrix,
     t: &Tables,

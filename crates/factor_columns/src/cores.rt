@@ -70,14 +70,7 @@ pub fn factor_columns(
     let n = a.dims.len();
     let mut count: u64 = 0;
     for j in 0..n {
-        match factor_column(a, t, j, tol, w, f, count) {
-            Ok(all) => {
-                count = all;
-            }
-            Err(e) => {
-                return Err(refused_at(j, e));
-            }
-        }
+        count = factor_column(a, t, j, tol, w, f, count).map_err(move |e| refused_at(j, e))?;
     }
     Ok(count)
 }

@@ -5,15 +5,14 @@ ghost use Rattle.needs.specs.Needs.{need_checks, AllMet};
 ghost use Rattle.needs.specs.Needs as needs;
 ghost use Rattle.factor_core.specs.Written.{factorized_by, plan_needs};
 ghost use Rattle.factor_core.specs.Cache.{cleared_to};
-ghost use Rattle.factor_core.specs.Cache as cached;
 
 use crate::FactorizeError;
 use analysis::cores::Counts;
 use factor_columns::cores::ColumnError;
-use needs::ShortBuffer;
+use needs::{ShortBuffer, enough};
 
 // The needs that only the plan shows: L's offsets, L's values, the cache, then L's row table.
-#[tactic(auto, using(crate::proofs::FitLaws::offsets_short, crate::proofs::FitLaws::values_short, crate::proofs::FitLaws::cache_short, crate::proofs::FitLaws::rows_short, crate::proofs::FitLaws::all_there))]
+#[tactic(auto, using(refusal::proofs::Laws::in_order))]
 pub fn plan_room(
     offsets: usize,
     values: usize,
@@ -27,45 +26,17 @@ pub fn plan_room(
     ensures says { needs.told result ≡ verdict (need_checks (plan_needs offsets values cache rows stored numbers kept)) }
     ensures met { OnOk result (AllMet (plan_needs offsets values cache rows stored numbers kept)) }
 {
-    if offsets < stored + 1 {
-        return Err(ShortBuffer {
-            which: 4,
-            need: stored + 1,
-        });
-    }
-    if values < numbers {
-        return Err(ShortBuffer {
-            which: 5,
-            need: numbers,
-        });
-    }
-    if cache < kept {
-        return Err(ShortBuffer {
-            which: 21,
-            need: kept,
-        });
-    }
-    if rows < stored {
-        return Err(ShortBuffer {
-            which: 3,
-            need: stored,
-        });
-    }
-    Ok(())
-}
-
-// The lesser of two.
-pub fn lesser(m: usize, n: usize) -> usize
-    ensures { result ≡ cached.lesser m n }
-{
-    if m < n { m } else { n }
+    enough(4, offsets, stored + 1)?;
+    enough(5, values, numbers)?;
+    enough(21, cache, kept)?;
+    enough(3, rows, stored)
 }
 
 // Zeros in the first n places of x, as far as there are so many.
 pub fn clear_to(n: usize, x: &mut [f64])
     ensures { x.new ≡ cleared_to n x.old }
 {
-    let m = lesser(n, x.len());
+    let m = n.min(x.len());
     scalar::clear(&mut x[..m]);
 }
 

@@ -14,6 +14,8 @@ use needs::ShortBuffer;
 use refusal::Refusal;
 
 // What a factorization is lent to work in.
+// Kept: one list of thirteen, in the order of the call, by which a refusal numbers them 8 to 20. With the plan's scratch and `Work` inside, the numbers' own would be
+// 8 and 17 to 20, and each caller would build three structs for one.
 #[derive(Drop)]
 pub struct Scratch<'a> {
     pub column: &'a mut [f64],
@@ -114,6 +116,7 @@ impl Refusal for FactorizeError {
 }
 
 // A refusal of the tables.
+// Kept: case by case: each call's error has just that call's cases, as document 01 lists them.
 impl From<SystemError> for FactorizeError {
     ghost from_gives = { λ e r. r ≡ of_tables e };
 
@@ -145,6 +148,7 @@ impl From<ShortBuffer> for FactorizeError {
 }
 
 // A refusal of the columns.
+// Kept: case by case: each call's error has just that call's cases, as document 01 lists them.
 impl From<ColumnError> for FactorizeError {
     ghost from_gives = { λ e r. r ≡ of_columns e };
 

@@ -1,11 +1,13 @@
 -- The analysis, and the outputs where the needs that only the plan shows are met or not.
---     stored_is, numbers-are, few_stored              the analysis
---     kept-is, plan-told                              the needs that only the plan shows
+--     stored_is, numbers-are, few_stored, found_is    the analysis
+--     least, kept-is, plan-told                       the needs that only the plan shows
 --     fit-short, fit_made                             the outputs
 -- Assumes nothing.
-use Rattle.std.specs.Prelude.{◌≡◌, ℕ, ◌<◌, Bool, true, cond, List, length, Result}
+use Rattle.std.specs.Prelude.{◌≡◌, ℕ, ◌<◌, ◌≤◌, min, Bool, true, cond, List, length, Result}
 use mathlib.Core.Path.{sym, ap, ◌∙◌}
 use native.Mathlib.Omega.{arith}
+use mathlib.Core.Logic.{⊎_elim}
+use Rattle.tables.proofs.SearchLaws.{lt-or-ge}
 use Rattle.refusal.specs.Refusal.{Told, done, refuses, first_of, verdict, after}
 use Rattle.refusal.proofs.Laws.{first-refuses}
 use Rattle.needs.specs.Needs.{need_checks}
@@ -19,12 +21,14 @@ use Rattle.layout.proofs.PlanLaws.{plan_few, plan-stored}
 use Rattle.factor_columns.specs.declared.cores.ColumnError.{ColumnError}
 use Rattle.scratch.specs.declared.Scratch.{Scratch}
 use Rattle.factor_setup.specs.Exact.{stored, numbers}
+use Rattle.factor_setup.specs.Lent.{Found}
 use Rattle.factor_setup.specs.declared.Outputs.{Outputs}
 use Rattle.factor_setup.specs.declared.Work.{Work}
 use Rattle.factor_made.specs.Made.{Makes}
 use Rattle.factor_core.specs.Factorize.{Factorized, told, Places, lent_in, answered}
 use Rattle.factor_core.specs.Written.{factorized_by, plan_needs, Written}
 use Rattle.factor_core.specs.Cache.{lesser, cache_need, whole_kept}
+use Rattle.factor_core.proofs.CacheLaws.{lesser-first, lesser-second}
 use Rattle.factor_core.proofs.FitLaws.{told-needs}
 use Rattle.factor_core.proofs.StopLaws.{answer-is}
 
@@ -45,7 +49,22 @@ module _ (a : System) (sound : SystemSound a.dims a.starts a.rows a.values a.per
       let f = plan_few (links a) (blocks a) (links-symm a) sound.plan.blocks in
       omega arith
 
+-- what the tables and the numbers are made from
+pub found_is : (a : System) (p : Scratch) (r : Analysis) → analysis.Ready a.dims a.starts a.rows a.perm a.late p.count.now p.heads.now p.into.now p.upper.now r → blocks a ≤ length p.heads.now → Found a p r
+found_is a p r g long =
+    record {
+      analyzed = record { listed = g.listed; parents = g.analyzed.parents; counted = g.analyzed.counted };
+      tree = long;
+      inside = g.inside;
+      stored = g.analyzed.stored;
+    }
+
 -- ---- the needs that only the plan shows
+
+-- the lesser of two, as std has it
+pub least : (m n : ℕ) → min m n ≡ lesser m n
+least m n =
+    ⊎_elim (λ (l : m < n). let e = lesser-first m n l in omega arith) (λ (l : n ≤ m). let e = lesser-second m n l in omega arith) (lt-or-ge m n)
 
 -- with what L has and what is kept as they are defined
 module _ (most : ℕ) (a : System) {m k : ℕ} (em : m ≡ numbers a) (ek : k ≡ lesser m most) where

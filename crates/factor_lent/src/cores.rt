@@ -1,7 +1,5 @@
 // The factorization in scratch that may be longer than its needs: it is worked out in the first places of each.
-// Kept: that the system has passed, as a fact: from `factor_room` down these crates are one call cut in pieces, and a struct around the system would be opened in each.
 ghost use Rattle.refusal.specs.Refusal.{done};
-ghost use Rattle.tables.specs.Sound.{SystemSound};
 ghost use Rattle.factor_setup.specs.Exact.{handed};
 ghost use Rattle.factor_core.specs.Factorize.{lent, SameOutputs};
 ghost use Rattle.factor_core.specs.Cache.{FactorsKept};
@@ -9,14 +7,15 @@ ghost use Rattle.factor_lent.specs.Room.{Enough, Exactly, OutputRoom, PlanScratc
 
 use factor_cleared::cores::factored_core;
 use factor_core::{Counts, FactorizeError, Outputs};
-use factor_setup::{System, Work};
+use factor_setup::{Passed, Work};
 use factor_tables::cores::work_numbers;
 use scratch::Scratch;
 
 // The outputs have exactly their needs. The scratch is cut here.
-// Kept: the scratch buffer by buffer: what is cut from a struct's field can't be lent in another struct, only what is cut from a parameter.
+// Kept: the scratch buffer by buffer: of what is cut from a struct's field and lent in another struct no value is known afterwards, so the promise on the first
+// places does not close; of what is cut from a parameter it does.
 pub fn lend_scratch(
-    s: &System,
+    s: &Passed,
     o: &mut Outputs,
     column: &mut [f64],
     inverse: &mut [u32],
@@ -34,16 +33,15 @@ pub fn lend_scratch(
     most: usize,
     cache: &mut [f64],
 ) -> Result<Counts, FactorizeError>
-    requires system_sound { SystemSound s.now.dims.now s.now.starts.now s.now.rows.now s.now.values.now s.now.perm.now s.now.late.now s.now.tol }
-    requires outputs { OutputRoom Exactly (handed s.now) o.old.order.now o.old.parents.now o.old.l_starts.now o.old.diag.now o.old.d.now }
-    requires plan_scratch { PlanScratch Enough (handed s.now) inverse.old sizes.old count.old heads.old into.old stamps.old table.old upper.old }
-    requires number_scratch { NumberScratch Enough (handed s.now) column.old bodies.old unit_starts.old d_starts.old places.old }
-    ensures kept { FactorsKept done most (handed s.now) (lent o.old.order.now o.old.parents.now o.old.l_starts.now o.old.l_rows.now o.old.l_offsets.now o.old.l_values.now o.old.diag.now o.old.d.now column.old inverse.old sizes.old count.old heads.old into.old stamps.old table.old upper.old bodies.old unit_starts.old d_starts.old places.old) cache.old result (lent o.new.order.now o.new.parents.now o.new.l_starts.now o.new.l_rows.now o.new.l_offsets.now o.new.l_values.now o.new.diag.now o.new.d.now column.new inverse.new sizes.new count.new heads.new into.new stamps.new table.new upper.new bodies.new unit_starts.new d_starts.new places.new) cache.new }
+    requires outputs { OutputRoom Exactly (handed s.now.system) o.old.order.now o.old.parents.now o.old.l_starts.now o.old.diag.now o.old.d.now }
+    requires plan_scratch { PlanScratch Enough (handed s.now.system) inverse.old sizes.old count.old heads.old into.old stamps.old table.old upper.old }
+    requires number_scratch { NumberScratch Enough (handed s.now.system) column.old bodies.old unit_starts.old d_starts.old places.old }
+    ensures kept { FactorsKept done most (handed s.now.system) (lent o.old.order.now o.old.parents.now o.old.l_starts.now o.old.l_rows.now o.old.l_offsets.now o.old.l_values.now o.old.diag.now o.old.d.now column.old inverse.old sizes.old count.old heads.old into.old stamps.old table.old upper.old bodies.old unit_starts.old d_starts.old places.old) cache.old result (lent o.new.order.now o.new.parents.now o.new.l_starts.now o.new.l_rows.now o.new.l_offsets.now o.new.l_values.now o.new.diag.now o.new.d.now column.new inverse.new sizes.new count.new heads.new into.new stamps.new table.new upper.new bodies.new unit_starts.new d_starts.new places.new) cache.new }
     ensures same { SameOutputs o.old o.new }
 {
-    let n = s.dims.len();
-    let m = s.rows.len();
-    let work = work_numbers(s.dims);
+    let n = s.system.dims.len();
+    let m = s.system.rows.len();
+    let work = work_numbers(s.system.dims);
     let (column, _) = column.split_at_mut(work);
     let (inverse, _) = inverse.split_at_mut(n);
     let (sizes, _) = sizes.split_at_mut(n);

@@ -1,41 +1,38 @@
 // The tables and the numbers of a factor, from what the analysis of the night leaves.
-// Kept: that the system has passed, as a fact: from `factor_room` down these crates are one call cut in pieces, and a struct around the system would be opened in each.
 ghost use Rattle.std.specs.Prelude.{◌≡◌, length};
 ghost use Rattle.scalar.specs.Block.{zeros};
-ghost use Rattle.tables.specs.Sound.{SystemSound};
-ghost use Rattle.analysis.specs.Plan.{Ready};
 ghost use Rattle.scratch.specs.Scratch.{SameScratch};
-ghost use Rattle.factor_setup.specs.Exact.{handed};
-ghost use Rattle.factor_setup.specs.Lent.{SameOutputs, SameWork, FactorRoom};
+ghost use Rattle.factor_setup.specs.Exact.{handed, numbers};
+ghost use Rattle.factor_setup.specs.Lent.{SameOutputs, SameWork, Found, TableRoom, ValueRoom};
 ghost use Rattle.factor_made.specs.Made.{Makes};
 
 use analysis::cores::Analysis;
 use factor_columns::cores::ColumnError;
 use factor_numbers::cores::write_numbers;
 use factor_setup::cores::write_tables;
-use factor_setup::{Outputs, System, Work};
+use factor_setup::{Outputs, Passed, Work};
 use scratch::Scratch;
 
 // The factor by what the analysis found, and left in the scratch of the plan. The cache ends as zeros.
 pub fn make_factor(
-    s: &System,
+    s: &Passed,
     found: &Analysis,
     o: &mut Outputs,
     p: &mut Scratch,
     w: &mut Work,
     cache: &mut [f64],
 ) -> Result<u64, ColumnError>
-    requires system_sound { SystemSound s.now.dims.now s.now.starts.now s.now.rows.now s.now.values.now s.now.perm.now s.now.late.now s.now.tol }
-    requires ready { Ready s.now.dims.now s.now.starts.now s.now.rows.now s.now.perm.now s.now.late.now p.old.count.now p.old.heads.now p.old.into.now p.old.upper.now found.now }
-    requires room { FactorRoom (handed s.now) o.old p.old w.old }
-    ensures makes { Makes (handed s.now) result o.old o.new }
+    requires analyzed { Found (handed s.now.system) p.old found.now × (found.now.counts.numbers ≡ numbers (handed s.now.system)) }
+    requires tables { TableRoom (handed s.now.system) o.old p.old w.old }
+    requires values { ValueRoom (handed s.now.system) o.old w.old }
+    ensures makes { Makes (handed s.now.system) result o.old o.new }
     ensures cache_after { cache.new ≡ zeros (length cache.old) }
     ensures outputs { SameOutputs o.old o.new }
     ensures scratch { SameScratch p.old p.new }
     ensures work { SameWork w.old w.new }
 {
-    write_tables(s, found, o, p, w);
-    let n = s.dims.len();
+    write_tables(&s.system, found, o, p, w);
+    let n = s.system.dims.len();
     let stored = found.counts.stored;
     let order = &mut *o.order;
     let l_starts = &mut *o.l_starts;

@@ -17,7 +17,7 @@ use Rattle.graph.proofs.TreeLaws.{tree-rows}
 use Rattle.graph.proofs.Whole.{linked-symm}
 use Rattle.std.specs.Option.{unwrap_or}
 use Rattle.tables.specs.Search.{first, fault}
-use Rattle.tables.proofs.FaultLaws.{fault-some, fault-past, fault-clear}
+use Rattle.tables.proofs.FaultLaws.{fault-end, fault-some, fault-past}
 use Rattle.tables.specs.Verdict.{at, past_diagonal}
 use Rattle.tables.specs.Sound.{Columns}
 use Rattle.tables.proofs.SearchLaws.{first-ge, first-before, first-fails, first-none, first-at, first_past, first-end}
@@ -178,10 +178,6 @@ pub lowest-end : {g : ℕ → ℕ → Bool} {listed : ℕ → List ℕ} {n : ℕ
 lowest-end (Some k) low = low.1
 lowest-end None low = low
 
-pub fault-end : (ok : ℕ → Bool) (n : ℕ) (o : Option ℕ) → o ≡ fault ok 0 n → unwrap_or o n ≡ first ok 0 n
-fault-end ok n (Some k) e = (fault-some ok 0 n k e).0
-fault-end ok n None e = sym (first_past ok 0 n n zero-le (omega arith) (fault-clear ok 0 n e) ∙ first-end ok n n (omega arith))
-
 module _ (g g' : ℕ → ℕ → Bool) {listed : ℕ → List ℕ} {n : ℕ} where
   pub lowest-before : (k : ℕ) (o : Option ℕ) → LowestOf g listed n (Some k) → LowestOf g' listed n o → before k o ≡ true → LowestOf (λ i k. g i k || g' i k) listed n (Some k)
   lowest-before k o p q e = (p.0, lowest-first p.1 (lowest-end o q) (before-end k n p.0 o e))
@@ -268,7 +264,7 @@ module _ (starts rows order parents l_starts l_rows : List ℕ) (columns : Colum
     off = first (headed parents (rows_in l_starts l_rows)) 0 (length parents)
 
     stray-is : unwrap_or o_stray n ≡ stray
-    stray-is = fault-end test n o_stray es
+    stray-is = fault-end test 0 n zero-le o_stray es
 
     module _ (k : ℕ) (e : Some k ≡ fault (headed parents (rows_in l_starts l_rows)) 0 (length parents)) where
       off-is : (k ≡ off) × (k < length parents)

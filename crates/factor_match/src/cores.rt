@@ -1,6 +1,6 @@
 // A factor's tables against A's under the order of elimination, where both are known to be of good shape. Column by column, from the
 // tables handed in: no scratch is lent, and none of the calls holds more than 48 KiB of local arrays.
-// Kept: what is known of the lists that are compared, as facts: they are the system's and the factor's, which are handed in apart.
+// Kept: what is known of the lists that are compared is one named record, `Compared`.
 ghost use Rattle.std.specs.Prelude.{◌≡◌, length};
 ghost use Rattle.graph.specs.Links.{rows_in};
 ghost use Rattle.match_rows.specs.Rows.{Compared, given_in, LowestOf};
@@ -36,10 +36,7 @@ pub fn first_lacking(links: &Links, l_starts: &[u32], l_rows: &[u32]) -> Option<
 pub fn is_before(column: usize, other: Option<usize>) -> bool
     ensures { result ≡ before column other }
 {
-    match other {
-        Some(o) => column < o,
-        None => true,
-    }
+    other.is_none_or(|o| column < o)
 }
 
 // Every column has the rows of the path rule and Liu's parent, or which column of the factor is the first that is wrong, and how.

@@ -3,13 +3,13 @@
 --     served                                             the system that the lists are for
 --     ends                                               what it leaves
 -- Assumes nothing.
-use Rattle.std.specs.Prelude.{◌≡◌, ℕ, zero, suc, ◌+◌, ◌-◌, ◌*◌, ◌<◌, ◌≤◌, Bool, ltb, List, [], ◌∷◌, ◌++◌, length, get_or, take, replicate}
+use Rattle.std.specs.Prelude.{◌≡◌, ℕ, zero, suc, ◌+◌, ◌-◌, ◌*◌, ◌<◌, ◌≤◌, Bool, ltb, List, [], ◌∷◌, length, get_or, replicate}
 use mathlib.Core.Path.{refl, sym, ap, subst, ◌∙◌}
 use native.Mathlib.Omega.{arith}
 use lib.Dec.{ltb→lt}
 use lib.Ieee.{Float}
 use Rattle.std.specs.Prelude.{Result, Ok, Err}
-use lib.Seq.{drop-cons, get_or-take, length-take-le}
+use lib.Seq.{get_or-take, length-take-le}
 use Rattle.scalar.specs.Block.{nans}
 use Rattle.graph.specs.Sets.{keep, filter, from, gather}
 use Rattle.graph.specs.Symbolic as L
@@ -31,6 +31,7 @@ use Rattle.machine.specs.Machine as machine
 use Rattle.machine.proofs.ListLaws.{gather_ext}
 use Rattle.machine.proofs.RunLaws.{links-symm, run_demand3}
 use Rattle.block_product.specs.Working.{slot}
+use Rattle.block_product.proofs.SlotLaws.{gather-part}
 use Rattle.layout.specs.Layout.{Tables, tables, tables_of, side, start_of, stop_of, rows_at, RowsLaid, DiagonalLaid, unit_starts_of, units_need, work_need}
 use Rattle.layout.proofs.RowLaws.{rows-laid}
 use Rattle.layout.proofs.DiagonalLaws.{diagonal-laid}
@@ -47,13 +48,6 @@ use Rattle.factor_columns.specs.declared.cores.ColumnError.TheVariants.{NotFinit
 use Rattle.factor_setup.specs.Exact.{sizes, numbers, l_starts, l_rows, l_offsets, values_after, units_after, pivots_after, Tabled}
 use Rattle.factor_numbers.specs.Spoilt.{spoilt_by}
 use Rattle.factor_numbers.proofs.LinkLaws.{same_rows, same-triples}
-
--- a list for each entry of a part of a table
-gather-part : {A : Type 0} (f : ℕ → List A) (l : List ℕ) (start many : ℕ) → start + many ≤ length l → gather (λ u. f (at l u)) (from start many) ≡ gather f (slot start many l)
-gather-part f l start zero h = refl
-gather-part f l start (suc many) h =
-    ap (λ (r : List _). f (at l start) ++ r) (gather-part f l (suc start) many (omega arith))
-    ∙ sym (ap (λ (r : List ℕ). gather f (take (suc many) r)) (drop-cons l start 0 (omega arith)))
 
 module _ (a : System) (sound : SystemSound a.dims a.starts a.rows a.values a.perm a.late a.tol) where
   abbrev n : ℕ

@@ -1,10 +1,8 @@
 // The numbers of a factor, where each list has exactly its need and the night's tables have passed.
-// Kept: that the system has passed, as a fact: from `factor_room` down these crates are one call cut in pieces, and a struct around the system would be opened in each.
 ghost use Rattle.std.specs.Prelude.{◌≡◌, length};
 ghost use Rattle.scalar.specs.Block.{zeros};
 ghost use Rattle.elimination_tree.specs.Tree.{parents_of};
 ghost use Rattle.pattern.specs.Moved.{UpperOf};
-ghost use Rattle.tables.specs.Sound.{SystemSound};
 ghost use Rattle.machine.specs.System.{blocks, links};
 ghost use Rattle.machine.specs.Machine as machine;
 ghost use Rattle.factor_columns.specs.Columns.{told};
@@ -13,15 +11,16 @@ ghost use Rattle.factor_numbers.specs.Spoilt.{spoilt_by};
 
 use column_products::cores::Working;
 use factor_columns::cores::{ColumnError, factor_columns};
-use factor_setup::System;
+use factor_setup::Passed;
 use lists::{Matrix, Numbers, Tables};
 use scalar::{blank, clear};
 use work_column::cores::Scratch;
 
 // The numbers of the factor by these tables; after a refusal they are NaN in full. The cache ends as zeros.
-// Kept: what is lent list by list, since most are cut from longer lists: of a cut that goes into a struct nothing is known afterwards.
+// Kept: list by list, as the caller has them in the fields of three structs. Tried with `Tables`, `Numbers` and the scratch of the columns made there of its fields and
+// their first places: it did not close, since of what a field lends into another struct, or a cut of it, no value is known afterwards.
 pub fn write_numbers(
-    s: &System,
+    s: &Passed,
     tree: &[u32],
     into: &[u32],
     upper: &[u32],
@@ -43,21 +42,20 @@ pub fn write_numbers(
     d: &mut [f64],
     cache: &mut [f64],
 ) -> Result<u64, ColumnError>
-    requires system_sound { SystemSound s.now.dims.now s.now.starts.now s.now.rows.now s.now.values.now s.now.perm.now s.now.late.now s.now.tol }
-    requires upper_of { UpperOf (blocks (handed s.now)) (links (handed s.now)) into.now upper.now × (tree.now ≡ parents_of (links (handed s.now)) (blocks (handed s.now))) }
-    requires tabled { Tabled (handed s.now) order.now l_starts.now l_rows.now l_offsets.now sizes.now bodies.now unit_starts.now d_starts.now next.old stamps.old }
-    requires number_room { NumberRoom (handed s.now) l_values.old diag.old d.old column.old inverse.old places.old }
-    ensures result_value { told result ≡ machine.told (machine.run (handed s.now)) }
-    ensures l_values_after { l_values.new ≡ values_after (handed s.now) (machine.run (handed s.now)) }
-    ensures diag_after { diag.new ≡ units_after (handed s.now) (machine.run (handed s.now)) }
-    ensures d_after { d.new ≡ pivots_after (handed s.now) (machine.run (handed s.now)) }
+    requires upper_of { UpperOf (blocks (handed s.now.system)) (links (handed s.now.system)) into.now upper.now × (tree.now ≡ parents_of (links (handed s.now.system)) (blocks (handed s.now.system))) }
+    requires tabled { Tabled (handed s.now.system) order.now l_starts.now l_rows.now l_offsets.now sizes.now bodies.now unit_starts.now d_starts.now next.old stamps.old }
+    requires number_room { NumberRoom (handed s.now.system) l_values.old diag.old d.old column.old inverse.old places.old }
+    ensures result_value { told result ≡ machine.told (machine.run (handed s.now.system)) }
+    ensures l_values_after { l_values.new ≡ values_after (handed s.now.system) (machine.run (handed s.now.system)) }
+    ensures diag_after { diag.new ≡ units_after (handed s.now.system) (machine.run (handed s.now.system)) }
+    ensures d_after { d.new ≡ pivots_after (handed s.now.system) (machine.run (handed s.now.system)) }
     ensures cache_after { cache.new ≡ zeros (length cache.old) }
 {
     let a = Matrix {
-        dims: &s.dims[..],
-        starts: &s.starts[..],
-        rows: &s.rows[..],
-        values: &s.values[..],
+        dims: &s.system.dims[..],
+        starts: &s.system.starts[..],
+        rows: &s.system.rows[..],
+        values: &s.system.values[..],
         bodies: &bodies[..],
         order: &order[..],
     };
@@ -90,7 +88,7 @@ pub fn write_numbers(
         d,
         cache,
     };
-    let r = factor_columns(&a, &t, s.tol, &mut w, &mut f);
+    let r = factor_columns(&a, &t, s.system.tol, &mut w, &mut f);
     spoil(&r, f.l_values);
     spoil(&r, f.diag);
     spoil(&r, f.d);

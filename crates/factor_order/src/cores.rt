@@ -11,63 +11,52 @@ ghost use Rattle.scalars.specs.Bodies.{offsets};
 ghost use Rattle.factor_order.specs.Same.{same_list};
 
 use columns::cores::total_area;
+use lists::{Factor, Night};
 use order::cores::{move_late, sizes};
-use tables::cores::wide;
 
 // The area of a factor's blocks, by the dimensions under the order of elimination, which are made in a table of their number.
-pub fn area_with(
-    dims: &[u32],
-    perm: &[u32],
-    late: &[u32],
-    l_starts: &[u32],
-    l_rows: &[u32],
-    table: &mut [u32],
-) -> usize
-    requires dims_len_bound { (length dims.now ≤ 4096) × Sizes dims.now × Permutes (length dims.now) perm.now × (length late.now ≡ length dims.now) }
-    requires columns { Columns past_diagonal (length dims.now) l_starts.now l_rows.now × (length table.old ≡ length dims.now) }
-    ensures { result ≡ areas (sizes_of dims.now (moved perm.now late.now)) l_starts.now l_rows.now }
+pub fn area_with(night: &Night, factor: &Factor, table: &mut [u32]) -> usize
+    requires dims_len_bound { (length night.now.dims.now ≤ 4096) × Sizes night.now.dims.now × Permutes (length night.now.dims.now) night.now.perm.now × (length night.now.late.now ≡ length night.now.dims.now) }
+    requires columns { Columns past_diagonal (length night.now.dims.now) factor.now.l_starts.now factor.now.l_rows.now × (length table.old ≡ length night.now.dims.now) }
+    ensures { result ≡ areas (sizes_of night.now.dims.now (moved night.now.perm.now night.now.late.now)) factor.now.l_starts.now factor.now.l_rows.now }
 {
-    move_late(perm, late, table);
-    sizes(dims, table);
-    total_area(table, l_starts, l_rows)
+    move_late(night.perm, night.late, table);
+    sizes(night.dims, table);
+    total_area(table, factor.l_starts, factor.l_rows)
 }
 
 // The area of a factor's blocks under the order of elimination.
-pub fn area_under(
-    dims: &[u32],
-    perm: &[u32],
-    late: &[u32],
-    l_starts: &[u32],
-    l_rows: &[u32],
-) -> usize
-    requires dims_len_bound { (length dims.now ≤ 4096) × Sizes dims.now × Permutes (length dims.now) perm.now × (length late.now ≡ length dims.now) }
-    requires columns { Columns past_diagonal (length dims.now) l_starts.now l_rows.now }
-    ensures { result ≡ areas (sizes_of dims.now (moved perm.now late.now)) l_starts.now l_rows.now }
+// Kept: the table is made as in `order_is`. It is a local array, which no function could hand out, and a closure for the one call behind it is longer than the two lines.
+pub fn area_under(night: &Night, factor: &Factor) -> usize
+    requires dims_len_bound { (length night.now.dims.now ≤ 4096) × Sizes night.now.dims.now × Permutes (length night.now.dims.now) night.now.perm.now × (length night.now.late.now ≡ length night.now.dims.now) }
+    requires columns { Columns past_diagonal (length night.now.dims.now) factor.now.l_starts.now factor.now.l_rows.now }
+    ensures { result ≡ areas (sizes_of night.now.dims.now (moved night.now.perm.now night.now.late.now)) factor.now.l_starts.now factor.now.l_rows.now }
 {
     let mut table = [0u32; 4096];
-    let n = dims.len();
-    area_with(dims, perm, late, l_starts, l_rows, &mut table[..n])
+    let n = night.dims.len();
+    area_with(night, factor, &mut table[..n])
 }
 
 // ---- the order
 
 // Is `order` the permutation after the late move? That is made in a table of its length.
-pub fn order_with(perm: &[u32], late: &[u32], order: &[u32], table: &mut [u32]) -> bool
-    requires { Permutes (length perm.now) perm.now × (length late.now ≡ length perm.now) × (length table.old ≡ length perm.now) }
-    ensures { result ≡ same_list order.now (moved perm.now late.now) }
+pub fn order_with(night: &Night, order: &[u32], table: &mut [u32]) -> bool
+    requires { Permutes (length night.now.perm.now) night.now.perm.now × (length night.now.late.now ≡ length night.now.perm.now) × (length table.old ≡ length night.now.perm.now) }
+    ensures { result ≡ same_list order.now (moved night.now.perm.now night.now.late.now) }
 {
-    move_late(perm, late, table);
+    move_late(night.perm, night.late, table);
     order == &table[..]
 }
 
 // Is `order` the permutation after the late move?
-pub fn order_is(perm: &[u32], late: &[u32], order: &[u32]) -> bool
-    requires { Permutes (length perm.now) perm.now × (length late.now ≡ length perm.now) × (length perm.now ≤ 4096) }
-    ensures { result ≡ same_list order.now (moved perm.now late.now) }
+// Kept: the table is made as in `area_under`, which says why.
+pub fn order_is(night: &Night, order: &[u32]) -> bool
+    requires { Permutes (length night.now.perm.now) night.now.perm.now × (length night.now.late.now ≡ length night.now.perm.now) × (length night.now.perm.now ≤ 4096) }
+    ensures { result ≡ same_list order.now (moved night.now.perm.now night.now.late.now) }
 {
     let mut table = [0u32; 4096];
-    let n = perm.len();
-    order_with(perm, late, order, &mut table[..n])
+    let n = night.perm.len();
+    order_with(night, order, &mut table[..n])
 }
 
 // ---- the offsets
@@ -77,33 +66,31 @@ pub fn size_under(dims: &[u32], order: &[u32], k: usize) -> usize
     requires { Permutes (length dims.now) order.now × (k < length dims.now) }
     ensures { result ≡ at (sizes_of dims.now order.now) k }
 {
-    let old = wide(order[k]);
-    wide(dims[old])
+    let old = order[k] as usize;
+    dims[old] as usize
 }
 
 // Are l_offsets where each body of the factor begins, and behind the last the number of its values?
-pub fn offsets_are(
-    dims: &[u32],
-    order: &[u32],
-    l_starts: &[u32],
-    l_rows: &[u32],
-    l_offsets: &[u32],
-) -> bool
-    requires { (length dims.now ≤ 4096) × Sizes dims.now × Permutes (length dims.now) order.now × Columns past_diagonal (length dims.now) l_starts.now l_rows.now }
-    ensures { result ≡ same_list l_offsets.now (offsets (sizes_of dims.now order.now) l_starts.now l_rows.now) }
+pub fn offsets_are(dims: &[u32], factor: &Factor) -> bool
+    requires { (length dims.now ≤ 4096) × Sizes dims.now × Permutes (length dims.now) factor.now.order.now × Columns past_diagonal (length dims.now) factor.now.l_starts.now factor.now.l_rows.now }
+    ensures { result ≡ same_list factor.now.l_offsets.now (offsets (sizes_of dims.now factor.now.order.now) factor.now.l_starts.now factor.now.l_rows.now) }
 {
+    let l_starts = factor.l_starts;
+    let l_rows = factor.l_rows;
+    let l_offsets = factor.l_offsets;
     if l_offsets.len() != l_rows.len() + 1 {
         return false;
     }
     let mut sum = 0;
+    // Kept: j is a column's number, by which its starts and its dimension are read, and p a place of two lists: with `zip` both would be cut first.
     for j in 0..dims.len() {
-        let width = size_under(dims, order, j);
-        for p in wide(l_starts[j])..wide(l_starts[j + 1]) {
-            if wide(l_offsets[p]) != sum {
+        let width = size_under(dims, factor.order, j);
+        for p in l_starts[j] as usize..l_starts[j + 1] as usize {
+            if l_offsets[p] as usize != sum {
                 return false;
             }
-            sum += size_under(dims, order, wide(l_rows[p])) * width;
+            sum += size_under(dims, factor.order, l_rows[p] as usize) * width;
         }
     }
-    wide(l_offsets[l_rows.len()]) == sum
+    l_offsets[l_rows.len()] as usize == sum
 }

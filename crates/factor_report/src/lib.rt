@@ -80,7 +80,6 @@ fn carry(
 ) -> u32
     ensures { (result ≡ number) × (told.new ≡ first ∷ second ∷ third ∷ []) × (value.new ≡ float ∷ []) }
 {
-    *told = [first, second, third];
     *value = [float];
-    number
+    report::carry(told, number, first, second, third)
 }

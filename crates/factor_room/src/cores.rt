@@ -1,36 +1,34 @@
 // The factorization in buffers of any length: where one is too short it is refused, else it is worked out in the first places of each.
-// Kept: that the system has passed, as a fact: from `factor_room` down these crates are one call cut in pieces, and a struct around the system would be opened in each.
 ghost use Rattle.refusal.specs.Refusal.{verdict};
 ghost use Rattle.needs.specs.Needs.{need_checks};
-ghost use Rattle.tables.specs.Sound.{SystemSound};
 ghost use Rattle.factor_setup.specs.Exact.{handed};
 ghost use Rattle.factor_core.specs.Factorize.{lent_of, SameOutputs, SameScratch, first_list};
 ghost use Rattle.factor_core.specs.Cache.{FactorsKept};
 
 use factor_core::{Counts, FactorizeError, Outputs, Scratch};
 use factor_outputs::cores::lend;
-use factor_setup::System;
-use factor_tables::cores::{scalars, unit_numbers, work_numbers};
+use factor_setup::Passed;
+use factor_tables::cores::{unit_numbers, work_numbers};
 use needs::first_short;
+use scalars::cores::scalar_count;
 
 // The factorization of a night whose tables have passed: the buffers' needs, then the work in the first places of each.
 pub fn lent_core(
-    s: &System,
+    s: &Passed,
     o: &mut Outputs,
     w: &mut Scratch,
     most: usize,
     cache: &mut [f64],
 ) -> Result<Counts, FactorizeError>
-    requires { SystemSound s.now.dims.now s.now.starts.now s.now.rows.now s.now.values.now s.now.perm.now s.now.late.now s.now.tol }
-    ensures kept { FactorsKept (verdict (need_checks (first_list (handed s.now) (lent_of o.old w.old)))) most (handed s.now) (lent_of o.old w.old) cache.old result (lent_of o.new w.new) cache.new }
+    ensures kept { FactorsKept (verdict (need_checks (first_list (handed s.now.system) (lent_of o.old w.old)))) most (handed s.now.system) (lent_of o.old w.old) cache.old result (lent_of o.new w.new) cache.new }
     ensures outputs { SameOutputs o.old o.new }
     ensures scratch { SameScratch w.old w.new }
 {
-    let n = s.dims.len();
-    let m = s.rows.len();
-    let units = unit_numbers(s.dims);
-    let scalars = scalars(s.dims);
-    let work = work_numbers(s.dims);
+    let n = s.system.dims.len();
+    let m = s.system.rows.len();
+    let units = unit_numbers(s.system.dims);
+    let scalars = scalar_count(s.system.dims);
+    let work = work_numbers(s.system.dims);
     first_short(
         &[
             o.order.len(),

@@ -1,6 +1,7 @@
 -- From what the analysis leaves to the tables of a factor, of any system whose tables have passed.
---     analyzed      what the analysis leaves, said of the system
+--     sound         what the checks have found
 --     tree-long     the tree has an entry a block
+--     count_long    and so have the counts
 --     store_asks    L's tables can be stored
 --     starts-told   where L's columns begin, by the system's own links
 --     rows_told     and so its rows
@@ -10,14 +11,17 @@
 use Rattle.std.specs.Prelude.{◌≡◌, ℕ, ◌+◌, ◌≤◌, List, length, take, replicate}
 use mathlib.Core.Path.{sym, ap, subst, ◌∙◌}
 use native.Mathlib.Omega.{arith}
+use lib.ListN.{length-map}
+use Rattle.graph.specs.Symbolic.{columns}
+use Rattle.graph.proofs.SymbolicLaws.{columns_length}
 use Rattle.buckets.specs.Buckets.{lengths}
-use Rattle.tables.specs.Sound.{PlanSound}
+use Rattle.tables.specs.Sound.{PlanSound, SystemSound}
+use Rattle.tables.proofs.Sound.{system-sound}
 use Rattle.elimination_tree.specs.Tree.{linked_up}
 use Rattle.elimination_tree.proofs.Links.{parents-length}
 use Rattle.order.specs.Order.{sizes_of}
 use Rattle.symbolic.specs.Columns.{Tree, columns_of}
-use Rattle.analysis.specs.Plan.{stored_of, starts_of, rows_of, Ready}
-use Rattle.analysis.specs.declared.cores.Analysis.{Analysis}
+use Rattle.analysis.specs.Plan.{stored_of, starts_of, rows_of}
 use Rattle.analysis.proofs.Same.{same-columns, same-stored, same-starts, same-l-rows, tree_of}
 use Rattle.scalars.specs.Scalars.{scalar_starts}
 use Rattle.scalars.specs.Bodies.{offsets}
@@ -27,19 +31,23 @@ use Rattle.layout.specs.Layout.{unit_starts_of}
 use Rattle.layout.proofs.PlanLaws.{plan_columns, plan_few}
 use Rattle.factor_tables.specs.Given.{Layable}
 use Rattle.factor_tables.proofs.TableLaws.{layable}
+use Rattle.factor_setup.specs.declared.Passed.{Passed}
 use Rattle.factor_setup.specs.Exact.{stored, l_starts, l_rows, Analyzed, Tabled}
 
--- ---- the analysis
+-- ---- the system
 
-pub analyzed : (a : System) {count heads into upper : List ℕ} {r : Analysis} → Ready a.dims a.starts a.rows a.perm a.late count heads into upper r
-    → Analyzed a into (take r.entries upper) (take (blocks a) heads) count
-analyzed a g = record { listed = g.listed; parents = g.analyzed.parents; counted = g.analyzed.counted }
+-- what the checks have found in what they accepted
+pub sound : (s : Passed) → SystemSound s.system.dims.now s.system.starts.now s.system.rows.now s.system.values.now s.system.perm.now s.system.late.now s.system.tol
+sound s = system-sound _ _ _ _ _ _ _ s.accepted
 
 -- ---- L's tables
 
 module _ (a : System) (few : blocks a ≤ 4096) {into upper tree count : List ℕ} (g : Analyzed a into upper tree count) where
   pub tree-long : length tree ≡ blocks a
   tree-long = ap length g.parents ∙ parents-length (links a) (blocks a) (links-symm a)
+
+  pub count_long : length count ≡ blocks a
+  count_long = ap length g.counted ∙ (length-map {A = List ℕ} {B = ℕ} (columns (links a) (blocks a) (blocks a)) length ∙ columns_length (links a) (blocks a) (blocks a))
 
   -- what `store` asks
   pub store_asks : (stamps inverse starts rows : List ℕ) → length stamps ≡ blocks a → length inverse ≡ blocks a → length starts ≡ blocks a + 1 → length rows ≡ stored a
@@ -65,7 +73,7 @@ module _ (a : System) (few : blocks a ≤ 4096) {into upper tree count : List �
 -- ---- the offsets
 
 module _ (a : System) (moved starts rows : List ℕ) (o : moved ≡ order a) (s : starts ≡ l_starts a) (r : rows ≡ l_rows a) where
-  -- what `lay_out` asks
+  -- what `lay_rows` asks
   pub laid : PlanSound a.dims a.starts a.rows a.perm a.late → Layable a.dims a.starts a.rows moved starts rows
   laid p =
       let few = plan_few (links a) (blocks a) (links-symm a) p.blocks in

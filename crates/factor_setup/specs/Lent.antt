@@ -1,12 +1,12 @@
 -- What a factor is made in: its outputs, the scratch of its plan, and what its numbers are worked out in. Assumes nothing.
-use Rattle.std.specs.Prelude.{◌≡◌, ◌+◌, ◌≤◌, length, drop}
+use Rattle.std.specs.Prelude.{◌≡◌, ◌+◌, ◌≤◌, length, take, drop}
 use Rattle.scalars.specs.Scalars.{scalar_count}
 use Rattle.machine.specs.System.{System, blocks}
 use Rattle.layout.specs.Layout.{units_need, work_need}
 use Rattle.lists.specs.declared.Night.{Night}
-use Rattle.scratch.specs.Scratch.{Room}
 use Rattle.scratch.specs.declared.Scratch.{Scratch}
-use Rattle.factor_setup.specs.Exact.{stored, numbers}
+use Rattle.analysis.specs.declared.cores.Analysis.{Analysis}
+use Rattle.factor_setup.specs.Exact.{stored, numbers, Analyzed}
 use Rattle.factor_setup.specs.declared.System as declared
 use Rattle.factor_setup.specs.declared.Outputs.{Outputs}
 use Rattle.factor_setup.specs.declared.Work.{Work}
@@ -34,22 +34,35 @@ pub record SameWork (w x : Work) : Type 0 where
   pub d_starts : (x.d_starts.ghost_name ≡ w.d_starts.ghost_name) × (length x.d_starts.now ≡ length w.d_starts.now)
   pub places : (x.places.ghost_name ≡ w.places.ghost_name) × (length x.places.now ≡ length w.places.now)
 
--- L's rows, offsets and values have room for what the plan shows, and each other buffer has exactly what it needs
-pub record FactorRoom (a : System) (o : Outputs) (p : Scratch) (w : Work) : Type 0 where
+-- What the analysis left in the scratch of the plan: the tree in the first places of `heads`, the upper pattern in `into` and in the first places of
+-- `upper`, and how many rows each column of L has in `count`.
+pub record Found (a : System) (p : Scratch) (r : Analysis) : Type 0 where
+  pub analyzed : Analyzed a p.into.now (take r.entries p.upper.now) (take (blocks a) p.heads.now) p.count.now
+  pub tree : blocks a ≤ length p.heads.now
+  pub inside : r.entries ≤ length p.upper.now
+  pub stored : r.counts.stored ≡ stored a
+
+-- L's rows and offsets have room for what the plan shows, and each other buffer of the tables has exactly what it needs
+pub record TableRoom (a : System) (o : Outputs) (p : Scratch) (w : Work) : Type 0 where
   pub order : length o.order.now ≡ blocks a
   pub parents : length o.parents.now ≡ blocks a
   pub l_starts : length o.l_starts.now ≡ blocks a + 1
   pub l_rows : stored a ≤ length o.l_rows.now
   pub l_offsets : stored a + 1 ≤ length o.l_offsets.now
-  pub l_values : numbers a ≤ length o.l_values.now
-  pub diag : length o.diag.now ≡ units_need a.dims
-  pub d : length o.d.now ≡ scalar_count a.dims
-  pub plan : Room (blocks a) (length a.rows) p
-  pub column : length w.column.now ≡ work_need a.dims
+  pub inverse : length p.inverse.now ≡ blocks a
+  pub sizes : length p.sizes.now ≡ blocks a
+  pub stamps : length p.stamps.now ≡ blocks a
   pub bodies : length w.bodies.now ≡ length a.rows + 1
   pub unit_starts : length w.unit_starts.now ≡ blocks a + 1
   pub d_starts : length w.d_starts.now ≡ blocks a + 1
   pub places : length w.places.now ≡ blocks a
+
+-- L's values have room for what the plan shows, and each other buffer of the numbers has exactly what it needs
+pub record ValueRoom (a : System) (o : Outputs) (w : Work) : Type 0 where
+  pub l_values : numbers a ≤ length o.l_values.now
+  pub diag : length o.diag.now ≡ units_need a.dims
+  pub d : length o.d.now ≡ scalar_count a.dims
+  pub column : length w.column.now ≡ work_need a.dims
 
 -- the outputs that a factor's tables and numbers do not fill are as they were
 pub record SameBeyond (a : System) (o p : Outputs) : Type 0 where

@@ -1,12 +1,11 @@
-// The tables of a factor, where each list but L's rows, offsets and values has exactly its need and the night's tables have passed.
+// The tables of a factor, where each list but L's rows and offsets has exactly its need and the night's tables have passed.
 ghost use Rattle.std.specs.Prelude.{◌≡◌, ◌+◌, take};
 ghost use Rattle.elimination_tree.specs.Tree.{parents_of};
 ghost use Rattle.tables.specs.Sound.{PlanSound};
-ghost use Rattle.analysis.specs.Plan.{Ready};
 ghost use Rattle.machine.specs.System.{blocks, links};
 ghost use Rattle.scratch.specs.Scratch.{SameScratch};
 ghost use Rattle.factor_setup.specs.Exact.{handed, stored, Tabled};
-ghost use Rattle.factor_setup.specs.Lent.{SameOutputs, SameWork, FactorRoom, SameBeyond};
+ghost use Rattle.factor_setup.specs.Lent.{SameOutputs, SameWork, Found, TableRoom, SameBeyond};
 
 use crate::{Outputs, System, Work};
 use analysis::cores::{Analysis, store};
@@ -18,8 +17,8 @@ use symbolic::UpperTree;
 // pattern in `into` and `upper`, the counts in `count`, which become the next places.
 pub fn write_tables(s: &System, found: &Analysis, o: &mut Outputs, p: &mut Scratch, w: &mut Work)
     requires plan_sound { PlanSound s.now.dims.now s.now.starts.now s.now.rows.now s.now.perm.now s.now.late.now }
-    requires ready { Ready s.now.dims.now s.now.starts.now s.now.rows.now s.now.perm.now s.now.late.now p.old.count.now p.old.heads.now p.old.into.now p.old.upper.now found.now }
-    requires room { FactorRoom (handed s.now) o.old p.old w.old }
+    requires analyzed { Found (handed s.now) p.old found.now }
+    requires room { TableRoom (handed s.now) o.old p.old w.old }
     ensures tabled { Tabled (handed s.now) o.new.order.now o.new.l_starts.now (take (stored (handed s.now)) o.new.l_rows.now) (take (stored (handed s.now) + 1) o.new.l_offsets.now) p.new.sizes.now w.new.bodies.now w.new.unit_starts.now w.new.d_starts.now p.new.count.now p.new.stamps.now }
     ensures parents_after { o.new.parents.now ≡ parents_of (links (handed s.now)) (blocks (handed s.now)) }
     ensures beyond { SameBeyond (handed s.now) o.old o.new }
@@ -68,5 +67,5 @@ pub fn write_tables(s: &System, found: &Analysis, o: &mut Outputs, p: &mut Scrat
     lay_rows(&night, order, l_starts, l_rows, sizes, l_offsets, bodies);
     buckets::cores::copy(l_starts, count);
     lay_diagonal(sizes, unit_starts, d_starts, places);
-    buckets::cores::fill(stamps, 0);
+    stamps.fill(0);
 }

@@ -3,12 +3,16 @@
 
 pub mod cores;
 
-ghost use Rattle.std.specs.Prelude.{◌≡◌};
+ghost use Rattle.std.specs.Prelude.{◌≡◌, false};
+ghost use Rattle.refusal.specs.Refusal.{refuses};
+ghost use Rattle.tables.specs.Verdict.{system_verdict};
 ghost use Rattle.factor_setup.specs.Lent.{night_of};
 
 use lists::Night;
 
 // What a factorization is handed.
+// Kept: one list of seven, in the order of the call. With a `Night` inside, `values` would stand apart from the starts and rows whose bodies it has, and each caller
+// would build two structs for one.
 #[derive(Clone, Copy, Drop)]
 pub struct System<'a> {
     // The dimension of each block.
@@ -38,6 +42,13 @@ impl<'a> System<'a> {
             late: self.late,
         }
     }
+}
+
+// A system that the checks have accepted.
+#[derive(Clone, Copy, Drop)]
+pub struct Passed<'a> {
+    pub system: System<'a>,
+    pub ghost accepted: { refuses (system_verdict system.dims.now system.starts.now system.rows.now system.values.now system.perm.now system.late.now system.tol) ≡ false },
 }
 
 // The outputs of a factorization.

@@ -1,6 +1,6 @@
 // The tables of a factorization where A's tables, the order and L's rows are known to be good, and the needs of its lists.
-// Kept: what the checks have found of A's dimensions, of an order or of the factor's columns, as facts. A struct of lists that have passed would be built after each
-// check and opened again here, where one list of it is read.
+// Kept: that dimensions are sizes and few, as facts: a factor's sizes by new number and A's by old are two lists, and each of these calls is handed one of them alone. What `lay_rows` asks is one
+// record, `Layable`.
 ghost use Rattle.std.specs.Prelude.{◌≡◌, ℕ, ◌+◌, ◌≤◌, length};
 ghost use Rattle.tables.specs.Sound.{Sizes};
 ghost use Rattle.order.specs.Order.{sizes_of};
@@ -10,6 +10,7 @@ ghost use Rattle.layout.specs.Layout.{unit_starts_of, units_need, work_need};
 ghost use Rattle.factor_tables.specs.Given.{Layable};
 
 use lists::Night;
+use scalars::cores::scalar_count;
 
 // ---- the tables
 
@@ -55,18 +56,6 @@ pub fn lay_diagonal(
 
 // ---- the needs, known before the plan: an order changes none of them (proofs/NeedLaws.antt)
 
-// The scalars of all blocks: as many numbers d has.
-pub fn scalars(dims: &[u32]) -> usize
-    requires { Sizes dims.now × (length dims.now ≤ 4096) }
-    ensures { result ≡ scalar_count dims.now }
-{
-    let mut sum = 0;
-    for &size in dims {
-        sum += size as usize;
-    }
-    sum
-}
-
 // The numbers of all unit factors.
 pub fn unit_numbers(dims: &[u32]) -> usize
     requires { Sizes dims.now × (length dims.now ≤ 4096) }
@@ -85,5 +74,5 @@ pub fn work_numbers(dims: &[u32]) -> usize
     requires { Sizes dims.now × (length dims.now ≤ 4096) }
     ensures { result ≡ work_need dims.now }
 {
-    scalars(dims) * layout::cores::widest_of(dims) as usize
+    scalar_count(dims) * layout::cores::widest_of(dims) as usize
 }

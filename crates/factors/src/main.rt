@@ -33,7 +33,7 @@ const NAMES: [&[u8]; 15] = [
 
 // Kept: each program's own list, names and number of kinds; the work is `word_list`'s.
 fn main() {
-    match replay::<16, _, _>(MOST, call::next, |k, kind| wrong(&NAMES, k, kind)) {
+    match replay::<16, _, _>(MOST, call::next, |k, kind| wrong(b"case", &NAMES, k, kind)) {
         Ok(tally) => summary(&NAMES, &tally),
         Err(at) => bad(at),
     }

@@ -1,15 +1,9 @@
 // What a call answers, and whether the list says the same.
+use bits::whole;
 use factorize::{Counts, FactorizeError};
 use refusal::number_of;
 use replay::same;
-use word_list::entry::{float, whole};
-
-// What L has where the call is refused.
-const NOTHING: Counts = Counts {
-    stored: 0,
-    numbers: 0,
-    products: 0,
-};
+use word_list::entry::float;
 
 // What an answer carries.
 #[derive(Clone, Copy)]
@@ -25,14 +19,17 @@ struct Carried {
 // Whether the words in front of a case say what the call answers.
 pub fn says(h: &[u32; 44], answer: &Result<Counts, FactorizeError>) -> bool {
     let carried = carried_by(answer);
-    let counts = answer.unwrap_or(NOTHING);
+    let (stored, numbers, products) = answer.map_or(
+        (0, 0, 0),
+        |c| (c.stored, c.numbers, c.products),
+    );
     h[29] == number_of(answer)
         && h[30] as usize == carried.first
         && h[31] as usize == carried.second
         && same(float(h[32], h[33]), carried.float)
-        && h[34] as usize == counts.stored
-        && h[35] as usize == counts.numbers
-        && whole(h[36], h[37]) == counts.products
+        && h[34] as usize == stored
+        && h[35] as usize == numbers
+        && whole(h[36], h[37]) == products
 }
 
 fn carried_by(answer: &Result<Counts, FactorizeError>) -> Carried {

@@ -8,6 +8,7 @@ use mathlib.Core.Logic.{⊎_elim}
 use mathlib.Core.Option.{Option, some}
 use native.Mathlib.Omega.{arith}
 use lib.Dec.{eqb→eq}
+use Rattle.graph.proofs.OrderLaws.{filter-short}
 use Rattle.graph.specs.Sets.{elem, keep, filter}
 use Rattle.graph.specs.Fill.{Fill, made, Least}
 use Rattle.graph.specs.Symbolic as L
@@ -23,14 +24,6 @@ use Rattle.symbolic.proofs.Walks.{tree-rule}
 use Rattle.fill_rows.specs.Repeats.{rows_in, repeats}
 
 -- ---- filters
-
-filter-short : (p : ℕ → Bool) (l : List ℕ) → length (filter p l) ≤ length l
-filter-short p [] = omega arith
-filter-short p (x ∷ l) = go (p x) (filter-short p l)
-  where
-    go : (b : Bool) → length (filter p l) ≤ length l → length (keep b x (filter p l)) ≤ suc (length l)
-    go true h = omega arith
-    go false h = omega arith
 
 -- a filter that drops nothing, by its length
 filter-whole : (p : ℕ → Bool) (l : List ℕ) → length l ≤ length (filter p l) → filter p l ≡ l

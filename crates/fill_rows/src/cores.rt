@@ -2,8 +2,8 @@
 // first row, which is its parent, is a part of the parent's column. So where it has one row more than that, it repeats the parent's column
 // behind the parent: it is copied, and only the other columns take part in the climbs, in which each row j goes to the end of the
 // columns that reach it. Many rows of L stand in columns that repeat others, and copied they cost next to nothing.
-// Kept: what is known of the parents, and how long is what is lent, as facts: a climb takes the parents' table alone, or one that leads onward in its place, and the lists
-// are lent apart.
+// Kept: what is known of the parents, and how long is what is lent, as facts: a climb takes the parents' table alone, or one that leads onward in its place (`fill_rows`), so it can take no
+// `UpperTree`.
 ghost use Rattle.std.specs.Prelude.{◌≡◌, ℕ, ◌+◌, ◌-◌, ◌<◌, ◌≤◌, ◌⊎◌, length, slice_index, slice_index_or};
 ghost use Rattle.graph.specs.Sets.{between, gather};
 ghost use Rattle.graph.specs.Symbolic as L;
@@ -17,6 +17,7 @@ use symbolic::UpperTree;
 use tables::cores::NONE;
 
 // Whether column k repeats its parent's: whether it has one row more.
+#[tactic(auto, using(symbolic::proofs::Climbs::goes_up))]
 fn repeats_parent(parent: &[u32], l_starts: &[u32], k: usize) -> bool
     requires { Parents parent.now × Rising (length parent.now) l_starts.now × (k < length parent.now) }
     ensures { result ≡ repeats parent.now l_starts.now k }
@@ -92,7 +93,7 @@ pub fn fill(
     requires laid { Laid (columns_of t.now.starts.now t.now.rows.now (length t.now.parent.now)) l_starts.now (length l_rows.old) }
     ensures { l_rows.new ≡ gather (L.rows (linked_up t.now.starts.now t.now.rows.now) (length t.now.parent.now)) (between 0 (length t.now.parent.now)) }
 {
-    buckets::cores::fill(stamp, 0);
+    stamp.fill(0);
     buckets::cores::copy(l_starts, next);
     link(t.parent, l_starts, onward);
     let n = t.parent.len();

@@ -1,5 +1,6 @@
 // The end of a column, where the plan's tables are known to be good.
-// Kept: that a unit factor and a d have as many numbers as their size says is about slices that are lent beside it.
+// Kept: how long a unit factor and a d are, as a fact beside their size: a diagonal block with its size would be a struct made for each column, and taken apart
+// at each row of its loop by the core, which asks for the size and the slices.
 ghost use Rattle.std.specs.Prelude.{◌≡◌, ◌+◌, ◌*◌, ◌<◌, length};
 ghost use Rattle.tables.specs.Verdict.{at};
 ghost use Rattle.dense_solve_right.specs.SolveRight.{ldlt_right_matsolve};

@@ -1,6 +1,6 @@
 -- Document 01's sheet of two blocks, from its 116 bytes to the three lines that `fit` prints: the tables, the plan, the numbers, the
 -- solution and the marks, all by the written definitions. By computation. Assumes nothing.
-use Rattle.std.specs.Prelude.{◌≡◌, ℕ, List, [], ◌∷◌, ◌++◌}
+use Rattle.std.specs.Prelude.{◌≡◌, ◌++◌}
 use mathlib.Core.Path.{refl}
 use lib.Ieee.{of_bits, to_bits, add, sub, mul, div, neg, lt, le, eq, is_nan}
 use Rattle.scalar.specs.Loop.{steps}
@@ -37,20 +37,9 @@ use Rattle.contents.specs.Contents.{column_fits, columns_check, start_at, starts
 use Rattle.sheet_check.specs.Sheet.{sheet_verdict}
 use Rattle.digits.specs.Digits.{digits, places, bits_of}
 use Rattle.render.specs.Lines.{scalar_line, lines}
+use Rattle.render.proofs.Examples.{line0, line1, line2}
 use Rattle.sheet.proofs.Examples.{two_blocks}
 use Rattle.fit_answer.specs.Fit.{night_text, printed}
-
--- `blocks 2 scalars 2 stored 1 products 1 silent 0`
-abbrev line0 : List ℕ
-line0 = 98 ∷ 108 ∷ 111 ∷ 99 ∷ 107 ∷ 115 ∷ 32 ∷ 50 ∷ 32 ∷ 115 ∷ 99 ∷ 97 ∷ 108 ∷ 97 ∷ 114 ∷ 115 ∷ 32 ∷ 50 ∷ 32 ∷ 115 ∷ 116 ∷ 111 ∷ 114 ∷ 101 ∷ 100 ∷ 32 ∷ 49 ∷ 32 ∷ 112 ∷ 114 ∷ 111 ∷ 100 ∷ 117 ∷ 99 ∷ 116 ∷ 115 ∷ 32 ∷ 49 ∷ 32 ∷ 115 ∷ 105 ∷ 108 ∷ 101 ∷ 110 ∷ 116 ∷ 32 ∷ 48 ∷ 10 ∷ []
-
--- `0 3FF8000000000000 heard`
-abbrev line1 : List ℕ
-line1 = 48 ∷ 32 ∷ 51 ∷ 70 ∷ 70 ∷ 56 ∷ 48 ∷ 48 ∷ 48 ∷ 48 ∷ 48 ∷ 48 ∷ 48 ∷ 48 ∷ 48 ∷ 48 ∷ 48 ∷ 48 ∷ 32 ∷ 104 ∷ 101 ∷ 97 ∷ 114 ∷ 100 ∷ 10 ∷ []
-
--- `1 3FF0000000000000 heard`
-abbrev line2 : List ℕ
-line2 = 49 ∷ 32 ∷ 51 ∷ 70 ∷ 70 ∷ 48 ∷ 48 ∷ 48 ∷ 48 ∷ 48 ∷ 48 ∷ 48 ∷ 48 ∷ 48 ∷ 48 ∷ 48 ∷ 48 ∷ 48 ∷ 32 ∷ 104 ∷ 101 ∷ 97 ∷ 114 ∷ 100 ∷ 10 ∷ []
 
 pub two-blocks : printed two_blocks ≡ line0 ++ line1 ++ line2
 unfolding printed night_text of_bits to_bits add sub mul div neg lt le eq is_nan steps magnitude is_finite max min moved reach climb climbs column columns rows before first_from first sum_from sum column_of dim_ok row_ok order_ok block_area perm_ok late_ok dims_check rows_check order_check perm_check late_check sizes_of scalar_perm place_of transposed permuted_body sub_mat_diag_mat_t lower_solve lower_transpose_solve diag_solve sub_mat_plus_vec sub_mat_transpose_plus_vec lower_right_solve lower_transpose_rightsolve diag_right_matsolve ldlt_solve ldlt_right_matsolve divided_by stored_pivot clear_upper counted pivots_of ldlt ldlt_row block_ldlt inverse_of loaded load mat_product product products sequence settled_by finish stored work_column run_to through forward solved_blocks backward permuted unpermuted solution mark marks_of silent_of u32_at u32s f64s column_fits columns_check start_at starts_from offset_fits offsets_check sheet_verdict digits places bits_of scalar_line lines

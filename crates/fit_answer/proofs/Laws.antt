@@ -12,13 +12,12 @@ use lib.ListN.{length-append, length-replicate, length-take}
 use lib.Seq.{length-take-le, take_at}
 use Rattle.refusal.specs.Refusal.{Told, tells, number, accepted, done, no_room, refuses, first_of, verdict, short_buffer, shapes_disagree}
 use Rattle.refusal.proofs.Laws.{both-pass, verdict-goes}
-use Rattle.tables.specs.Verdict.{system_verdict}
 use Rattle.scalars.specs.Scalars.{scalar_count}
 use Rattle.machine.specs.System.{System, blocks}
 use Rattle.machine.specs.Machine.{Run, going, stopped, run}
 use Rattle.factor_setup.specs.Exact.{system, numbers}
 use Rattle.fit_factor.specs.Fitted as fitted
-use Rattle.fit_factor.specs.Fitted.{l_room_check}
+use Rattle.fit_factor.specs.Fitted.{l_room_check, Within}
 use Rattle.fit_factor.specs.declared.cores.FitError.{FitError}
 use Rattle.fit_factor.specs.declared.cores.FitError.TheVariants as fit
 use Rattle.fit_factor.proofs.Laws.{stopped-refuses}
@@ -143,16 +142,20 @@ module _ (s : List ℕ) where
   unfolding printed
   sheet-accepted e = sym (ap (λ (b : Bool). cond b (refused_line (number (sheet_verdict s))) (night_text (system_of s) (right_side_of s))) e)
 
+-- what the lists hold once the reading has let them go
+pub holds-back : {s : List ℕ} {w : Night'} {dims late perm starts rows dims' late' perm' starts' rows' : List ℕ} {values right values' right' : List Float}
+    → Holds s w dims' late' perm' starts' rows' values' right'
+    → dims ≡ dims' → late ≡ late' → perm ≡ perm' → starts ≡ starts' → rows ≡ rows' → values ≡ values' → right ≡ right'
+    → Holds s w dims late perm starts rows values right
+holds-back h dims late perm starts rows values right = rw (dims, late, perm, starts, rows, values, right) h
+
 -- the sheet's night in the first places of the rooms
 module _ (s : List ℕ) (w : Night') (e : outcome.told (Ok w) ≡ sheet_told s) (dims late perm starts rows : List ℕ) (values right : List Float) (h : Holds s w dims late perm starts rows values right) where
-  pub night-within :
-      ((system_verdict (take w.blocks dims) (take (w.blocks + 1) starts) (take w.stored rows) (take w.values values) (take w.blocks perm) (take w.blocks late) w.tol ≡ done)
-      × (length (take w.blocks dims) ≤ 128) × (length (take w.stored rows) ≤ 1024) × (scalar_count (take w.blocks dims) ≤ 512))
-      × (length (take w.scalars right) ≡ scalar_count (take w.blocks dims))
+  pub night-within : Within (system (take w.blocks dims) (take (w.blocks + 1) starts) (take w.stored rows) (take w.values values) (take w.blocks perm) (take w.blocks late) w.tol)
   night-within =
       let z = h.sound in
-      rw (h.of_dims, h.of_starts, h.of_rows, h.of_values, h.of_perm, h.of_late, h.of_right, h.tol)
-      ((z.system, omega (arith, z.of_dims, z.blocks), omega (arith, z.of_rows, z.stored), z.scalars), z.of_right)
+      rw (h.of_dims, h.of_starts, h.of_rows, h.of_values, h.of_perm, h.of_late, h.tol)
+      (record { passes = z.system; blocks = omega (arith, z.of_dims, z.blocks); rows = omega (arith, z.of_rows, z.stored); scalars = z.scalars })
 
   pub night-printed : night_text (system (take w.blocks dims) (take (w.blocks + 1) starts) (take w.stored rows) (take w.values values) (take w.blocks perm) (take w.blocks late) w.tol) (take w.scalars right) ≡ printed s
   night-printed =

@@ -1,20 +1,20 @@
 // What `fit` prints for a night whose sheet has passed.
-ghost use Rattle.std.specs.Prelude.{◌≡◌, ◌≤◌, false, length, ◌==◌};
-ghost use Rattle.refusal.specs.Refusal.{done, number};
-ghost use Rattle.tables.specs.Verdict.{system_verdict};
+// Kept: that a night has passed its checks, and that the rooms hold it, is one named record, `Within` of `fit_factor`, of the struct that is handed on.
+ghost use Rattle.std.specs.Prelude.{◌≡◌, false, length, ◌==◌};
+ghost use Rattle.refusal.specs.Refusal.{number};
 ghost use Rattle.scalars.specs.Scalars.{scalar_count};
 ghost use Rattle.factor_setup.specs.Exact.{handed};
+ghost use Rattle.fit_factor.specs.Fitted.{Within};
 ghost use Rattle.render.specs.Rendered.{told, told_line, Renders, text_verdict};
 ghost use Rattle.fit_answer.specs.Fit.{night_text};
 
 use factor_setup::System;
 use fit_night::cores::night_core;
-use refusal::Refusal;
 use render::{AnswerError, ShortText, Text, refused};
 
 // The night's lines, or those of a refusal after its plan, into the first places of `out`. x is the right side in old order.
 pub fn solve_core(s: &System, x: &mut [f64], out: &mut [u8]) -> Result<Text, ShortText>
-    requires tol_value { (system_verdict s.now.dims.now s.now.starts.now s.now.rows.now s.now.values.now s.now.perm.now s.now.late.now s.now.tol ≡ done) × (length s.now.dims.now ≤ 128) × (length s.now.rows.now ≤ 1024) × (scalar_count s.now.dims.now ≤ 512) }
+    requires within { Within (handed s.now) }
     requires x_len { length x.old ≡ scalar_count s.now.dims.now }
     ensures { Renders (text_verdict (night_text (handed s.now) x.old) out.old) (night_text (handed s.now) x.old) out.old (told_line result) out.new }
 {
@@ -31,7 +31,7 @@ pub fn solve_core(s: &System, x: &mut [f64], out: &mut [u8]) -> Result<Text, Sho
             &marks[..scalars],
             out,
         )),
-        Err(refusal) => refused(u64::from(refusal.number()), out),
+        Err(refusal) => refused(&refusal, out),
     }
 }
 

@@ -8,9 +8,8 @@ ghost use Rattle.fit_answer.specs.Fit.{printed};
 
 use crate::cores::solve_core;
 use factor_setup::System;
-use refusal::Refusal;
 use render::{ShortText, Text, refused};
-use sheet::read;
+use sheet::{Tables, read};
 
 // The answer's bytes go to the first places of `out`: the lines of an accepted night, or the line of a refusal. Only a shorter `out` is
 // refused, by 11 with the text's length as its need; it is then as it was, and so are always the places beyond the text.
@@ -24,16 +23,16 @@ pub fn answer(bytes: &[u8], out: &mut [u8]) -> Result<Text, ShortText>
     let mut rows = [0u32; 1024];
     let mut values = [0.0; 4096];
     let mut right = [0.0; 512];
-    let r = read(
-        bytes,
-        &mut dims,
-        &mut late,
-        &mut perm,
-        &mut starts,
-        &mut rows,
-        &mut values,
-        &mut right,
-    );
+    let mut o = Tables {
+        dims: &mut dims,
+        late: &mut late,
+        perm: &mut perm,
+        starts: &mut starts,
+        rows: &mut rows,
+        values: &mut values,
+        right: &mut right,
+    };
+    let r = read(bytes, &mut o);
     match r {
         Ok(night) => {
             let n = night.blocks;
@@ -53,6 +52,6 @@ pub fn answer(bytes: &[u8], out: &mut [u8]) -> Result<Text, ShortText>
             };
             solve_core(&system, &mut right[..scalars], out)
         }
-        Err(refusal) => refused(u64::from(refusal.number()), out),
+        Err(refusal) => refused(&refusal, out),
     }
 }

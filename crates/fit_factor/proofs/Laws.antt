@@ -33,7 +33,7 @@ use Rattle.factor_tables.proofs.NeedLaws.{widest-small}
 use Rattle.factor_setup.specs.Exact.{stored, numbers}
 use Rattle.factor_core.specs.Factorize as factorization
 use Rattle.factor_core.specs.Factorize.{Factorized, Places, first_list, early, whole, answered, Factors}
-use Rattle.fit_factor.specs.Fitted.{Fitted, told, l_room_check, possible, roomed, factor, Fits}
+use Rattle.fit_factor.specs.Fitted.{Fitted, told, l_room_check, possible, roomed, Within, factor, Fits}
 
 -- ---- what a run can be told with
 
@@ -217,17 +217,14 @@ module _ (a : System) (passes : system_verdict a.dims a.starts a.rows a.values a
 
 -- ---- as the call finds it: under the verdict before the plan
 
-abbrev pub Within : System → Type 0
-Within a = (system_verdict a.dims a.starts a.rows a.values a.perm a.late a.tol ≡ done) × (blocks a ≤ 128) × (length a.rows ≤ 1024) × (scalar_count a.dims ≤ 512)
-
 module _ {a : System} {b b' : Places} {f : Factorized} (q : Factors (early a b) a b f b') (w : Within a) (r : Rooms b) where
   passed : Factors done a b f b'
-  passed = subst (λ (t : Told). Factors t a b f b') (early-passes a w.0 w.1 w.2 w.3 b r) q
+  passed = subst (λ (t : Told). Factors t a b f b') (early-passes a w.passes w.blocks w.rows w.scalars b r) q
 
   pub within-number : possible (number (factorization.told f)) ≡ true
-  within-number = fits-number a w.0 w.1 w.2 w.3 b r f passed.outcome
+  within-number = fits-number a w.passes w.blocks w.rows w.scalars b r f passed.outcome
 
   pub within-fits : (g : Fitted) → told g ≡ roomed (factorization.told f)
       → Fits a (factor b.order b.parents b.l_starts b.l_rows b.l_offsets b.l_values b.diag b.d) g
       (factor b'.order b'.parents b'.l_starts b'.l_rows b'.l_offsets b'.l_values b'.diag b'.d)
-  within-fits g e = fits a w.0 w.1 w.2 w.3 b r f b' g passed e
+  within-fits g e = fits a w.passes w.blocks w.rows w.scalars b r f b' g passed e

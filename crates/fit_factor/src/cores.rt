@@ -1,15 +1,27 @@
 // The factorization within the rooms of `fit`: 128 blocks, 512 scalars, 1,024 stored blocks, and 8,192 numbers of L. L then has at most
 // 8,128 blocks, and the diagonal factors and the working column at most 8,192 numbers each.
-ghost use Rattle.std.specs.Prelude.{◌≡◌, ◌≤◌, true, length};
-ghost use Rattle.refusal.specs.Refusal.{done, number};
-ghost use Rattle.tables.specs.Verdict.{system_verdict};
-ghost use Rattle.scalars.specs.Scalars.{scalar_count};
+// Kept: that a night has passed its checks, and that the rooms hold it, is one named record, `Within`, of the struct that is handed on.
+ghost use Rattle.std.specs.Prelude.{◌≡◌, true};
+ghost use Rattle.refusal.specs.Refusal.{number};
 ghost use Rattle.factor_setup.specs.Exact.{handed};
 ghost use Rattle.factor_core.specs.Factorize as factorization;
-ghost use Rattle.fit_factor.specs.Fitted.{told, told_error, possible, roomed, factor, Fits};
+ghost use Rattle.fit_factor.specs.Fitted.{told, told_error, possible, roomed, Within, factor_in, SameArrays, Fits};
 
 use factorize::{Counts, FactorizeError, Outputs, Scratch, System, factorize};
 use refusal::Refusal;
+
+// Where a night is factored: arrays of the program's room, of which the first places hold the factor.
+#[derive(Drop)]
+pub struct Arrays<'a> {
+    pub order: &'a mut [u32; 128],
+    pub parents: &'a mut [u32; 128],
+    pub l_starts: &'a mut [u32; 129],
+    pub l_rows: &'a mut [u32; 8128],
+    pub l_offsets: &'a mut [u32; 8129],
+    pub l_values: &'a mut [f64; 8192],
+    pub diag: &'a mut [f64; 8192],
+    pub d: &'a mut [f64; 512],
+}
 
 // The refusals of a night whose tables have passed.
 #[derive(Clone, Copy, Debug, PartialEq)]
@@ -50,22 +62,20 @@ impl Refusal for FitError {
 
 // `factorize::factorize` with outputs and scratch as large as the rooms: of the needs only that of L's values may not be met. Accepted,
 // L's blocks below the diagonal, L's numbers, and the block products worked through.
-// Kept: the outputs one by one: each is an array of the program's own room, which its type says.
-pub fn factor_core(
-    s: &System,
-    order: &mut [u32; 128],
-    parents: &mut [u32; 128],
-    l_starts: &mut [u32; 129],
-    l_rows: &mut [u32; 8128],
-    l_offsets: &mut [u32; 8129],
-    l_values: &mut [f64; 8192],
-    diag: &mut [f64; 8192],
-    d: &mut [f64; 512],
-) -> Result<Counts, FitError>
-    requires { (system_verdict s.now.dims.now s.now.starts.now s.now.rows.now s.now.values.now s.now.perm.now s.now.late.now s.now.tol ≡ done) × (length s.now.dims.now ≤ 128) × (length s.now.rows.now ≤ 1024) × (scalar_count s.now.dims.now ≤ 512) }
-    ensures { Fits (handed s.now) (factor order.old parents.old l_starts.old l_rows.old l_offsets.old l_values.old diag.old d.old) result (factor order.new parents.new l_starts.new l_rows.new l_offsets.new l_values.new diag.new d.new) }
+pub fn factor_core(s: &System, o: &mut Arrays) -> Result<Counts, FitError>
+    requires { Within (handed s.now) }
+    ensures fits { Fits (handed s.now) (factor_in o.old) result (factor_in o.new) }
+    ensures same { SameArrays o.old o.new }
 {
-    let mut o = Outputs {
+    let order = &mut *o.order;
+    let parents = &mut *o.parents;
+    let l_starts = &mut *o.l_starts;
+    let l_rows = &mut *o.l_rows;
+    let l_offsets = &mut *o.l_offsets;
+    let l_values = &mut *o.l_values;
+    let diag = &mut *o.diag;
+    let d = &mut *o.d;
+    let mut outputs = Outputs {
         order,
         parents,
         l_starts,
@@ -90,7 +100,7 @@ pub fn factor_core(
         d_starts: &mut [0; 129],
         places: &mut [0; 128],
     };
-    fitted_core(factorize(s, &mut o, &mut w))
+    fitted_core(factorize(s, &mut outputs, &mut w))
 }
 
 // What a factorization says where only L's values can be short, and nothing else can be wrong.

@@ -11,7 +11,6 @@ use native.Mathlib.Omega.{arith}
 use native.Mathlib.Decide.{dec_lt}
 use borrow.Author.Tests.{lt-ltb}
 use lib.Ieee.{Float}
-use lib.ListN.{length-append, length-drop}
 use lib.Seq.{take_at}
 use Rattle.refusal.specs.Refusal.{number, accepted, done, no_room, refuses, first_of, after}
 use Rattle.refusal.proofs.Laws.{first-refuses, first_passes}
@@ -29,14 +28,14 @@ use Rattle.held_columns.proofs.Held as held
 use Rattle.marks.specs.Mark.{silent_of, marks_of}
 use Rattle.solution.specs.Solution.{solution}
 use Rattle.solve_core.specs.Core.{Solvable, SolvedBy}
-use Rattle.fit_factor.specs.Fitted.{Fitted, told, l_room_check, Factor, Fits}
-use Rattle.fit_factor.proofs.Laws.{Within, units-few, stored-few}
+use Rattle.fit_factor.specs.Fitted.{Fitted, told, l_room_check, Within, Factor, Fits}
+use Rattle.fit_factor.proofs.Laws.{units-few, stored-few}
 use Rattle.fit_night.specs.Night as night
 use Rattle.fit_night.specs.Night.{Night, Room, Solves}
 
 module _ (a : System) (w : Within a) where
   sound : SystemSound a.dims a.starts a.rows a.values a.perm a.late a.tol
-  sound = system-sound _ _ _ _ _ _ _ (ap refuses w.0)
+  sound = system-sound _ _ _ _ _ _ _ (ap refuses w.passes)
 
   -- ---- an accepted factorization
 
@@ -72,10 +71,6 @@ module _ (a : System) (w : Within a) where
           second x y z p = cc
 
   -- ---- the lists that it leaves
-
-  -- a list whose first places are new is as long as it was
-  same-long : {A : Type 0} (n : ℕ) (new old now : List A) → now ≡ new ++ drop n old → length new ≡ n → n ≤ length old → length now ≡ length old
-  same-long n new old now is e h = ap length is ∙ (length-append new (drop n old) ∙ omega (arith, length-drop n old))
 
   module _ (b : Factor) (c : Counts) (b' : Factor) (f : Fits a b (Ok c) b') where
     pub acc : Accepts c
@@ -118,55 +113,25 @@ module _ (a : System) (w : Within a) where
         ap (take (scalar_count a.dims)) (f.d ∙ (now-new _ _ ∙ ap (λ (l : List Float). l ++ drop (scalar_count a.dims) b.d) (ap (pivots_after a) acc.runs)))
         ∙ take_at (pivots_after a (going s)) _ (scalar_count a.dims) (held.pivots-long a sound s acc.runs)
 
-    -- and each is as long as it was
-    pub record Long : Type 0 where
-      pub of_order : length b'.order ≡ 128
-      pub of_starts : length b'.l_starts ≡ 129
-      pub of_rows : length b'.l_rows ≡ 8128
-      pub of_offsets : length b'.l_offsets ≡ 8129
-      pub of_values : length b'.l_values ≡ 8192
-      pub of_diag : length b'.diag ≡ 8192
-      pub of_d : length b'.d ≡ 512
+    few-numbers : numbers a ≤ 8192
+    few-numbers = go (dec_lt 8192 (numbers a))
+      where
+        go : Dec (8192 < numbers a) → numbers a ≤ 8192
+        go (yes h) = absurd (false≢true (sym acc.has_room ∙ ap (λ (t : Bool). refuses (cond t no_room done)) (lt-ltb 8192 (numbers a) h)))
+        go (no h) = omega arith
 
-    -- where the rooms were
-    module _ (o : length b.order ≡ 128) (ls : length b.l_starts ≡ 129) (lr : length b.l_rows ≡ 8128) (lo : length b.l_offsets ≡ 8129)
-        (lv : length b.l_values ≡ 8192) (u : length b.diag ≡ 8192) (p : length b.d ≡ 512) where
-      few-numbers : numbers a ≤ 8192
-      few-numbers = go (dec_lt 8192 (numbers a))
-        where
-          go : Dec (8192 < numbers a) → numbers a ≤ 8192
-          go (yes h) = absurd (false≢true (sym acc.has_room ∙ ap (λ (t : Bool). refuses (cond t no_room done)) (lt-ltb 8192 (numbers a) h)))
-          go (no h) = omega arith
-
-      pub long : Long
-      long =
-          record {
-            of_order = same-long (blocks a) (order a) b.order b'.order (f.order ∙ now-new _ _) order-long (omega (arith, o, w.1)) ∙ o;
-            of_starts = same-long (blocks a + 1) (l_starts a) b.l_starts b'.l_starts (f.l_starts ∙ now-new _ _) (held.good a sound s acc.runs).ordered.entries (omega (arith, ls, w.1)) ∙ ls;
-            of_rows = same-long (stored a) (l_rows a) b.l_rows b'.l_rows (f.l_rows ∙ now-new _ _) (held.rows_long a sound s acc.runs) (omega (arith, lr, stored-few a w.0 w.1 w.3)) ∙ lr;
-            of_offsets = same-long (stored a + 1) (l_offsets a) b.l_offsets b'.l_offsets (f.l_offsets ∙ now-new _ _) (held.offsets-long a sound s acc.runs) (omega (arith, lo, stored-few a w.0 w.1 w.3)) ∙ lo;
-            of_values = same-long (numbers a) (values_after a (run a)) b.l_values b'.l_values (f.l_values ∙ now-new _ _) (ap (λ (r : Run). length (values_after a r)) acc.runs ∙ held.values-long a sound s acc.runs) (omega (arith, lv, few-numbers)) ∙ lv;
-            of_diag = same-long (units_need a.dims) (units_after a (run a)) b.diag b'.diag (f.diag ∙ now-new _ _) (ap (λ (r : Run). length (units_after a r)) acc.runs ∙ held.units-long a sound s acc.runs) (omega (arith, u, units-few a w.0 w.1 w.3)) ∙ u;
-            of_d = same-long (scalar_count a.dims) (pivots_after a (run a)) b.d b'.d (f.d ∙ now-new _ _) (ap (λ (r : Run). length (pivots_after a r)) acc.runs ∙ held.pivots-long a sound s acc.runs) (omega (arith, p, w.3)) ∙ p;
-          }
-
-      -- so there is room for the solve
-      pub room : (x marks : ℕ) → x ≡ scalar_count a.dims → marks ≡ scalar_count a.dims
-          → Room a.dims c.stored c.numbers (length b'.order) (length b'.l_starts) (length b'.l_rows) (length b'.l_offsets) (length b'.l_values) (length b'.diag) (length b'.d) x marks
-      room x marks ex em =
-          record {
-            blocks = w.1;
-            scalars = w.3;
-            of_order = omega (arith, long.of_order, w.1);
-            of_starts = omega (arith, long.of_starts, w.1);
-            of_rows = omega (arith, long.of_rows, acc.by_stored, stored-few a w.0 w.1 w.3);
-            of_offsets = omega (arith, long.of_offsets, acc.by_stored, stored-few a w.0 w.1 w.3);
-            of_values = omega (arith, long.of_values, acc.by_numbers, few-numbers);
-            of_diag = omega (arith, long.of_diag, units-few a w.0 w.1 w.3);
-            of_d = omega (arith, long.of_d, w.3);
-            of_x = ex;
-            of_marks = em;
-          }
+    -- there is room for the solve
+    pub room : (x marks : ℕ) → x ≡ scalar_count a.dims → marks ≡ scalar_count a.dims → Room a.dims c.stored c.numbers x marks
+    room x marks ex em =
+        record {
+          blocks = w.blocks;
+          scalars = w.scalars;
+          of_rows = omega (arith, acc.by_stored, stored-few a w.passes w.blocks w.scalars);
+          of_values = omega (arith, acc.by_numbers, few-numbers);
+          of_diag = units-few a w.passes w.blocks w.scalars;
+          of_x = ex;
+          of_marks = em;
+        }
 
     -- a factor that can be solved with
     good : Solvable a.dims (order a) (l_starts a) (l_rows a) (l_offsets a) (numbers a) (units_need a.dims) (scalar_count a.dims)

@@ -1,16 +1,17 @@
 // A night whose tables have passed, within the rooms of `fit`: factored, solved and marked.
-ghost use Rattle.std.specs.Prelude.{◌≡◌, ◌+◌, ◌≤◌, length, take};
-ghost use Rattle.refusal.specs.Refusal.{done};
-ghost use Rattle.tables.specs.Verdict.{system_verdict};
+// Kept: that a night has passed its checks, and that the rooms hold it, is one named record, `Within` of `fit_factor`, of the struct that is handed on.
+ghost use Rattle.std.specs.Prelude.{◌≡◌, ◌+◌, length, take};
 ghost use Rattle.scalars.specs.Scalars.{scalar_count};
 ghost use Rattle.layout.specs.Layout.{units_need};
 ghost use Rattle.marks.specs.Mark.{silent_of, marks_of};
 ghost use Rattle.solve_core.specs.Core.{Solvable, SolvedBy};
 ghost use Rattle.factor_setup.specs.Exact.{handed};
+ghost use Rattle.fit_factor.specs.Fitted.{Within};
 ghost use Rattle.fit_night.specs.Night.{Room, Solves};
 
+use analysis::cores::Counts;
 use factor_setup::System;
-use fit_factor::cores::{FitError, factor_core};
+use fit_factor::cores::{Arrays, FitError, factor_core};
 use fit_solve::cores::solve_room;
 use lists::Factor;
 use marks::cores::mark_core;
@@ -26,7 +27,7 @@ pub struct Tally {
 // x, the right side in old order, becomes the solution, and `marks` the mark of each scalar. Both are as they were where the night is
 // refused.
 pub fn night_core(s: &System, x: &mut [f64], marks: &mut [u8]) -> Result<Tally, FitError>
-    requires tol_value { (system_verdict s.now.dims.now s.now.starts.now s.now.rows.now s.now.values.now s.now.perm.now s.now.late.now s.now.tol ≡ done) × (length s.now.dims.now ≤ 128) × (length s.now.rows.now ≤ 1024) × (scalar_count s.now.dims.now ≤ 512) }
+    requires within { Within (handed s.now) }
     requires x_len { (length x.old ≡ scalar_count s.now.dims.now) × (length marks.old ≡ scalar_count s.now.dims.now) }
     ensures { Solves (handed s.now) x.old marks.old result x.new marks.new }
 {
@@ -38,31 +39,20 @@ pub fn night_core(s: &System, x: &mut [f64], marks: &mut [u8]) -> Result<Tally, 
     let mut l_values = [0.0; 8192];
     let mut diag = [0.0; 8192];
     let mut d = [0.0; 512];
-    let counts = factor_core(
-        s,
-        &mut order,
-        &mut parents,
-        &mut l_starts,
-        &mut l_rows,
-        &mut l_offsets,
-        &mut l_values,
-        &mut diag,
-        &mut d,
-    )?;
-    let stored = counts.stored;
-    let numbers = counts.numbers;
-    let products = counts.products;
-    let longer = Factor {
-        order: &order,
-        parents: &parents,
-        l_starts: &l_starts,
-        l_rows: &l_rows,
-        l_offsets: &l_offsets,
-        l_values: &l_values,
-        diag: &diag,
-        d: &d,
+    let mut o = Arrays {
+        order: &mut order,
+        parents: &mut parents,
+        l_starts: &mut l_starts,
+        l_rows: &mut l_rows,
+        l_offsets: &mut l_offsets,
+        l_values: &mut l_values,
+        diag: &mut diag,
+        d: &mut d,
     };
-    let silent = solve_parts(s.dims, s.tol, stored, numbers, &longer, x, marks);
+    let counts = factor_core(s, &mut o)?;
+    let stored = counts.stored;
+    let products = counts.products;
+    let silent = solve_parts(s.dims, s.tol, counts, &o, x, marks);
     Ok(Tally {
         stored,
         products,
@@ -70,36 +60,37 @@ pub fn night_core(s: &System, x: &mut [f64], marks: &mut [u8]) -> Result<Tally, 
     })
 }
 
-// The solve and the marks with a factor in the first places of longer lists; its parents are not read. Returns how many scalars are silent.
+// The solve and the marks with the factor that stands in the first places of the arrays. Returns how many scalars are silent.
 pub fn solve_parts(
     dims: &[u32],
     tol: f64,
-    stored: usize,
-    numbers: usize,
-    longer: &Factor,
+    counts: Counts,
+    o: &Arrays,
     x: &mut [f64],
     marks: &mut [u8],
 ) -> usize
-    requires solvable { Solvable dims.now (take (length dims.now) longer.now.order.now) (take (length dims.now + 1) longer.now.l_starts.now) (take stored longer.now.l_rows.now) (take (stored + 1) longer.now.l_offsets.now) numbers (units_need dims.now) (scalar_count dims.now) }
-    requires room { Room dims.now stored numbers (length longer.now.order.now) (length longer.now.l_starts.now) (length longer.now.l_rows.now) (length longer.now.l_offsets.now) (length longer.now.l_values.now) (length longer.now.diag.now) (length longer.now.d.now) (length x.old) (length marks.old) }
-    ensures solved_by { SolvedBy dims.now (take (length dims.now) longer.now.order.now) (take (length dims.now + 1) longer.now.l_starts.now) (take stored longer.now.l_rows.now) (take (stored + 1) longer.now.l_offsets.now) (take numbers longer.now.l_values.now) (take (units_need dims.now) longer.now.diag.now) (take (scalar_count dims.now) longer.now.d.now) x.old x.new }
-    ensures value { (result ≡ silent_of tol (take (scalar_count dims.now) longer.now.d.now)) × (marks.new ≡ marks_of dims.now (take (length dims.now) longer.now.order.now) tol (take (scalar_count dims.now) longer.now.d.now)) }
+    requires solvable { Solvable dims.now (take (length dims.now) o.now.order.now) (take (length dims.now + 1) o.now.l_starts.now) (take counts.stored o.now.l_rows.now) (take (counts.stored + 1) o.now.l_offsets.now) counts.numbers (units_need dims.now) (scalar_count dims.now) }
+    requires room { Room dims.now counts.stored counts.numbers (length x.old) (length marks.old) }
+    ensures solved_by { SolvedBy dims.now (take (length dims.now) o.now.order.now) (take (length dims.now + 1) o.now.l_starts.now) (take counts.stored o.now.l_rows.now) (take (counts.stored + 1) o.now.l_offsets.now) (take counts.numbers o.now.l_values.now) (take (units_need dims.now) o.now.diag.now) (take (scalar_count dims.now) o.now.d.now) x.old x.new }
+    ensures value { (result ≡ silent_of tol (take (scalar_count dims.now) o.now.d.now)) × (marks.new ≡ marks_of dims.now (take (length dims.now) o.now.order.now) tol (take (scalar_count dims.now) o.now.d.now)) }
 {
     let mut old_starts = [0u32; 129];
     let n = dims.len();
     let n1 = n + 1;
+    let stored = counts.stored;
     let stored1 = stored + 1;
+    let numbers = counts.numbers;
     let scalars = x.len();
     let units = factor_tables::cores::unit_numbers(dims);
     let f = Factor {
-        order: &longer.order[..n],
-        parents: longer.parents,
-        l_starts: &longer.l_starts[..n1],
-        l_rows: &longer.l_rows[..stored],
-        l_offsets: &longer.l_offsets[..stored1],
-        l_values: &longer.l_values[..numbers],
-        diag: &longer.diag[..units],
-        d: &longer.d[..scalars],
+        order: &o.order[..n],
+        parents: &o.parents[..n],
+        l_starts: &o.l_starts[..n1],
+        l_rows: &o.l_rows[..stored],
+        l_offsets: &o.l_offsets[..stored1],
+        l_values: &o.l_values[..numbers],
+        diag: &o.diag[..units],
+        d: &o.d[..scalars],
     };
     solve_room(dims, &f, x);
     mark_core(dims, f.order, f.d, tol, &mut old_starts, marks)

@@ -1,7 +1,6 @@
 // The solve within the rooms of `fit`, 128 blocks and 512 scalars, where the factor is known to be good and each list has
 // exactly its need.
-// Kept: what the checks have found of A's dimensions, of an order or of the factor's columns, as facts. A struct of lists that have passed would be built after each
-// check and opened again here, where one list of it is read.
+// Kept: what the checks have found of a factor is one named record, `FactorFits`, which `solve_core` asks for too.
 ghost use Rattle.std.specs.Prelude.{◌≡◌, ◌≤◌, length};
 ghost use Rattle.scalars.specs.Scalars.{scalar_count};
 ghost use Rattle.solve_core.specs.Core.{FactorFits, SolvedWith};

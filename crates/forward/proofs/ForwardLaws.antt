@@ -1,5 +1,5 @@
 -- The sweep of the forward part does what the solve means: `rows-up` over the rows of a column, `columns-up` over the columns. Assumes nothing.
-use Rattle.std.specs.Prelude.{◌≡◌, ℕ, zero, suc, ◌+◌, ◌-◌, ◌*◌, ◌<◌, ◌≤◌, List, length}
+use Rattle.std.specs.Prelude.{◌≡◌, ℕ, zero, suc, ◌+◌, ◌-◌, ◌*◌, ◌<◌, ◌≤◌, List, ◌++◌, length, take, drop}
 use mathlib.Core.Path.{refl, sym, ap, subst, ◌∙◌}
 use native.Mathlib.Omega.{arith}
 use lib.Ieee.{Float}
@@ -16,7 +16,8 @@ use Rattle.solution.specs.Solution.{Vector, through, forward_row, forward_column
 use Rattle.solution.specs.Flat.{HoldsRows, BlocksLaid, ShowsVector}
 use Rattle.solution.proofs.RowLaws.{through-none, through-more, lost-length}
 use Rattle.solution.proofs.VectorLaws.{block_inside, shows-within}
-use Rattle.sweep.specs.Sweep.{rows_done, column_done, turns_done}
+use Rattle.sweep.specs.Sweep.{Touches, rows_done, column_done, turns_done}
+use Rattle.sweep.proofs.SweepLaws.{rewritten}
 use Rattle.forward.specs.Forward.{Forwards, forward_pass}
 
 module _ (t : Tables) (starts : List ℕ) (l_values : List Float) where
@@ -111,3 +112,9 @@ module _ (t : Tables) (starts : List ℕ) (l_values : List Float) where
         let one = column-up m y' rows (subst (BlocksLaid t.sizes starts) (sym r.0) laid) (omega arith) in
         let e : m + 1 ≡ suc m = omega arith in
         (one.0 ∙ r.0, subst (λ (k : ℕ). Forwards t starts l_values k y (turns_done forward_pass t starts l_values (suc m) y)) e (columns_more m y y' _ r.1 one.1))
+
+-- a row's part loses A times the column's, which stays
+pub row_touches : (h w : ℕ) (a x y y' : List Float) → y' ≡ sub_mat_plus_vec h w y a x → Touches forward_pass h w a x y x y'
+row_touches h w a x y y' e s t z fits block sx sy =
+    ap (λ (l : List Float). take t z ++ (l ++ drop h (drop t z))) (ap (λ (l : List Float). sub_mat_plus_vec h w l a (slot s w z)) sy ∙ ap (sub_mat_plus_vec h w y a) sx ∙ sym e)
+    ∙ ap (within t h (λ _. y')) (sym (ap (λ (l : List Float). within s w (λ _. l) z) (sym sx) ∙ rewritten s w z))

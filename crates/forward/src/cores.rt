@@ -18,8 +18,8 @@ impl Direction for Down {
         t
     }
 
-    fn row(h: usize, w: usize, a: &[f64], y: &mut [f64], s: usize, t: usize) {
-        sub_rows(h, w, a, y, s, t);
+    fn row(h: usize, w: usize, a: &[f64], x: &mut [f64], y: &mut [f64]) {
+        sub_rows(h, w, a, y, x);
     }
 }
 

@@ -1,6 +1,6 @@
 -- The laws of the late move: it gives a permutation, keeps each group's order, puts the unflagged first, and moving twice is moving once.
 -- Assumes nothing.
-use Prim.Native.Nat.{ℕ, suc, ◌+◌}
+use Prim.Native.Nat.{ℕ, suc, ◌+◌, ◌≤◌}
 use mathlib.Core.Bool.{Bool, true, false, not}
 use mathlib.Core.List.{List, [], ◌∷◌, ◌++◌, append-nil}
 use mathlib.Core.Logic.{◌⊎◌, inl, inr, ⊎_elim}
@@ -18,9 +18,18 @@ keep_append : (b : Bool) (x : ℕ) (l m : List ℕ) → keep b x (l ++ m) ≡ ke
 keep_append true x l m = refl
 keep_append false x l m = refl
 
-filter-append : (p : ℕ → Bool) (l m : List ℕ) → filter p (l ++ m) ≡ filter p l ++ filter p m
+pub filter-append : (p : ℕ → Bool) (l m : List ℕ) → filter p (l ++ m) ≡ filter p l ++ filter p m
 filter-append p [] m = refl
 filter-append p (x ∷ l) m = ap (keep (p x) x) (filter-append p l m) ∙ keep_append (p x) x (filter p l) (filter p m)
+
+-- no more pass a test than there are
+pub filter-short : (p : ℕ → Bool) (l : List ℕ) → length (filter p l) ≤ length l
+filter-short p [] = omega arith
+filter-short p (x ∷ l) = go (p x) (filter-short p l)
+  where
+    go : (b : Bool) → length (filter p l) ≤ length l → length (keep b x (filter p l)) ≤ suc (length l)
+    go true h = omega arith
+    go false h = omega arith
 
 filter-twice : (p : ℕ → Bool) (l : List ℕ) → filter p (filter p l) ≡ filter p l
 filter-twice p [] = refl

@@ -77,11 +77,11 @@ module _ (linked : ℕ → ℕ → Bool) (n : ℕ) (symm : (a b : ℕ) → T (li
 
 -- ---- A's tables
 
-and_split : (a b : Bool) → T (a && b) → T a × T b
+pub and_split : (a b : Bool) → T (a && b) → T a × T b
 and_split true b t = (tt, t)
 and_split false b t = absurd t
 
-and-join : (a b : Bool) → T a → T b → T (a && b)
+pub and-join : (a b : Bool) → T a → T b → T (a && b)
 and-join true b t u = u
 and-join false b t u = absurd t
 

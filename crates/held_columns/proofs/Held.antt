@@ -20,10 +20,10 @@ use Rattle.tables.specs.Verdict.{at, column_of, area_at, areas, past_diagonal}
 use Rattle.tables.specs.Sound.{Columns, SystemSound}
 use Rattle.tables.proofs.ColumnLaws.{column-is, in_some}
 use Rattle.graph.proofs.SumLaws.{length-gather}
-use Rattle.buckets.proofs.Laws.{sum-snoc}
+use Rattle.buckets.proofs.Laws.{sum-snoc, nothing-before}
 use Rattle.buckets.proofs.Turns.{before-next}
 use Rattle.scalars.specs.Scalars.{scalar_starts, scalar_count}
-use Rattle.scalars.proofs.ScalarLaws.{starts-at, nothing-before}
+use Rattle.scalars.proofs.ScalarLaws.{starts-at}
 use Rattle.scalars.proofs.BodyLaws.{offset-first, offset-next, offsets-at, length-offsets}
 use Rattle.layout.proofs.DiagonalLaws.{length-squares, squares-at}
 use Rattle.machine.specs.System.{System, blocks, links, order}
@@ -32,6 +32,7 @@ use Rattle.machine.specs.Machine.{State, column_at, going, run}
 use Rattle.machine.proofs.ListLaws.{gather_ext}
 use Rattle.machine.proofs.RunLaws.{links-symm, run_rows}
 use Rattle.block_product.specs.Working.{slot}
+use Rattle.block_product.proofs.SlotLaws.{gather-part}
 use Rattle.layout.specs.Layout.{Tables, tables_of, start_of, stop_of, rows_at, squares, unit_starts_of, units_need}
 use Rattle.layout.proofs.Gathered.{gather-slot, gather-runs}
 use Rattle.layout.proofs.RowLaws.{area-is}
@@ -41,13 +42,6 @@ use Rattle.factor_tables.proofs.TableLaws.{sizes-count}
 use Rattle.factor_setup.specs.Exact.{sizes, stored, numbers, l_starts, l_rows, l_offsets, values_after, units_after, pivots_after}
 use Rattle.solution.specs.Flat.{HoldsColumns}
 use Rattle.held_columns.proofs.Sized.{ColumnSized, run_sized}
-
--- a list for each entry of a part of a table
-gather-part : {A : Type 0} (f : ℕ → List A) (l : List ℕ) (start many : ℕ) → start + many ≤ length l → gather (λ u. f (at l u)) (from start many) ≡ gather f (slot start many l)
-gather-part f l start zero h = refl
-gather-part f l start (suc many) h =
-    ap (λ (r : List _). f (at l start) ++ r) (gather-part f l (suc start) many (omega arith))
-    ∙ sym (ap (λ (r : List ℕ). gather f (take (suc many) r)) (drop-cons l start 0 (omega arith)))
 
 -- of lists one behind the other, each stands where the sizes of those before it end
 module _ (f : ℕ → List Float) (start size : ℕ → ℕ) (n : ℕ) (first : start 0 ≡ 0) (next : (u : ℕ) → u < n → start (u + 1) ≡ start u + size u) (long : (u : ℕ) → u < n → length (f u) ≡ size u) where

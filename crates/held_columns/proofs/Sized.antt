@@ -41,21 +41,13 @@ use Rattle.order.specs.Order.{sizes_of}
 use Rattle.scalars.specs.Bodies.{offsets}
 use Rattle.load_column.specs.Load.{Source, Fed}
 use Rattle.load_column.proofs.MeaningLaws.{block-length, block-is}
+use Rattle.block_product.proofs.WorkingLaws.{steps-length, sub-length}
 use Rattle.machine.specs.System.{System, blocks, order, dim}
 use Rattle.machine.specs.Machine.{Column, State, no_column, column_at, rows_at, reduced, body_or, load, product, products, reached, sequence_by, sequence, worked, Made, made, refused, solved, settled_by, finish, going, stored, run_to, run, start}
 use Rattle.machine.proofs.StepLaws.{products-finished, stored-going}
 use Rattle.machine.proofs.RunLaws.{going_before}
 
 -- ---- the kernels keep the length of what they write
-
-steps-length : (f : ℕ → List Float → List Float) → ((k : ℕ) (a : List Float) → length (f k a) ≡ length a) → (n : ℕ) (a : List Float) → length (steps f n a) ≡ length a
-unfolding steps
-steps-length f h zero a = refl
-steps-length f h (suc n) a = h n (steps f n a) ∙ steps-length f h n a
-
-sub-length : (m n k : ℕ) (y a d b : List Float) → length (sub_mat_diag_mat_t m n k y a d b) ≡ length y
-unfolding sub_mat_diag_mat_t
-sub-length m n k y a d b = steps-length _ (λ t. steps-length _ (λ j. steps-length _ (λ i y. length-set y _ _) m) n) k y
 
 right-length : (m n : ℕ) (l d x : List Float) → length (ldlt_right_matsolve m n l d x) ≡ length x
 unfolding ldlt_right_matsolve lower_right_solve diag_right_matsolve lower_transpose_rightsolve

@@ -1,6 +1,5 @@
 // The rows of a finished column, where the plan's tables are known to be good.
-// Kept: that w is not 0 and that column j is one of the tables', which other contracts ask too: each is said of a number that is handed on beside
-// the slices.
+// Kept: that w is not 0 and how long a unit factor is, as facts: a block with its sizes would be a struct made for each row of the loop.
 ghost use Rattle.std.specs.Prelude.{◌≡◌, ◌+◌, ◌*◌, ◌<◌, ◌≤◌, length};
 ghost use Rattle.tables.specs.Verdict.{at};
 ghost use Rattle.block_product.specs.Working.{slot};

@@ -13,8 +13,12 @@ use Rattle.kernel_diag.specs.Diag.{inverse}
 abbrev pub scale_column : ℕ → ℕ → Float → ℕ → List Float → List Float
 scale_column m j by r y = put y m r j (mul binary64 (at y m r j) by)
 
+-- each column by its factor
+abbrev pub columns_scaled : ℕ → ℕ → (ℕ → Float) → List Float → List Float
+columns_scaled m n f = steps (λ j. steps (scale_column m j (f j)) m) n
+
 unfoldable pub diag_right_matsolve : ℕ → ℕ → List Float → List Float → List Float
-diag_right_matsolve m n d y = steps (λ j. steps (scale_column m j (inverse (slice_index_or d j nan))) m) n y
+diag_right_matsolve m n d y = columns_scaled m n (λ j. inverse (slice_index_or d j nan)) y
 
 -- ---- what is refused, by the sizes and by how many numbers each slice has
 

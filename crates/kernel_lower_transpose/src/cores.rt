@@ -1,6 +1,5 @@
 // The substitutions where the lengths are known to be right.
-// Kept: how long a slice is, as a fact beside the sizes. Each core is called in one place or two, with sizes and slices as the source has them; a struct that
-// holds a size and its slice would be built anew at each of them, for the one fact that it spares.
+// Kept: how long each slice is, as a fact about sizes that the slices of a call share: structs with sizes of their own would need as many facts, that these agree.
 ghost use Rattle.std.specs.Prelude.{◌≡◌, ◌*◌, length};
 ghost use Rattle.kernel_lower_transpose.specs.Transpose.{lower_transpose_solve, lower_transpose_matsolve};
 
@@ -24,6 +23,7 @@ pub fn lower_transpose_solve_core(n: usize, l: &[f64], y: &mut [f64])
 }
 
 // Y := L⁻ᵀ Y, column by column.
+// Kept: one line over `each_column`, which is what `kernel_lower`'s solve is too.
 pub fn lower_transpose_matsolve_core(n: usize, nrhs: usize, l: &[f64], y: &mut [f64])
     requires l_len { length l.now ≡ n * n }
     requires y_len { length y.old ≡ n * nrhs }

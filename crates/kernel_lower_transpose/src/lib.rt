@@ -13,7 +13,7 @@ use kernel_lower::cores::{matsolve_shapes, solve_shapes};
 use refusal::ShapeError;
 
 // y := L⁻ᵀ y, with L of n rows and columns and y of n numbers.
-// Kept: each calls its own shapes and its own core; these two lines are all that it shares with the others.
+// Kept: a name of the source, with a core of its own; the shapes are those of `kernel_lower`.
 pub fn lower_transpose_solve_inplace(n: usize, l: &[f64], y: &mut [f64]) -> Result<(), ShapeError>
     ensures { Answers (solve_verdict n (length l.now) (length y.old)) y.old (lower_transpose_solve n l.now y.old) result y.new }
 {
@@ -23,7 +23,7 @@ pub fn lower_transpose_solve_inplace(n: usize, l: &[f64], y: &mut [f64]) -> Resu
 }
 
 // Y := L⁻ᵀ Y, with L of n rows and columns and Y of n rows and nrhs columns.
-// Kept: each calls its own shapes and its own core; these two lines are all that it shares with the others.
+// Kept: a name of the source, with a core of its own; the shapes are those of `kernel_lower`.
 pub fn lower_transpose_matsolve_inplace(
     n: usize,
     nrhs: usize,

@@ -11,7 +11,7 @@ use crate::cores::{add_mat_diag_mat_t_core, sub_mat_diag_mat_t_core};
 use refusal::{ShapeError, area, size};
 
 // Y := Y - A diag(d) Bᵀ, with Y of m rows and n columns, A of m rows and k columns, d of k numbers, B of n rows and k columns.
-// Kept: each calls its own shapes and its own core; these two lines are all that it shares with the others.
+// Kept: two names of the source, of which C calls the one that subtracts, each with its own core; they share their shapes, and both cores are `change`.
 pub fn sub_mat_diag_mat_t_inplace(
     m: usize,
     n: usize,
@@ -29,7 +29,7 @@ pub fn sub_mat_diag_mat_t_inplace(
 }
 
 // Y := Y + A diag(d) Bᵀ, with Y of m rows and n columns, A of m rows and k columns, d of k numbers, B of n rows and k columns.
-// Kept: each calls its own shapes and its own core; these two lines are all that it shares with the others.
+// Kept: two names of the source, of which C calls the one that subtracts, each with its own core; they share their shapes, and both cores are `change`.
 pub fn add_mat_diag_mat_t_inplace(
     m: usize,
     n: usize,

@@ -1,6 +1,5 @@
 // The substitution where the lengths are known to be right, and the checks of the lengths.
-// Kept: how long a slice is, as a fact beside the sizes. Each core is called in one place or two, with sizes and slices as the source has them; a struct that
-// holds a size and its slice would be built anew at each of them, for the one fact that it spares.
+// Kept: how long each slice is, as a fact about sizes that the slices of a call share: structs with sizes of their own would need as many facts, that these agree.
 ghost use Rattle.std.specs.Prelude.{◌≡◌, ◌+◌, ◌*◌, ◌<◌, length, OnOk};
 ghost use Rattle.refusal.specs.Shaped.{told};
 ghost use Rattle.kernel_right.specs.Right.{right_less, lower_right_solve, right_verdict};
@@ -23,6 +22,8 @@ pub fn lower_right_solve_core(m: usize, n: usize, l: &[f64], x: &mut [f64])
 }
 
 // x(r, j), less x(r, t) * L(t, j) for t = j + 1, .., j + u.
+// Kept: the transposed solve, `less_before`, goes over other columns and reads L the other way; one function of both would take the columns and a reader of L,
+// and share these four lines alone.
 fn less_after(m: usize, n: usize, r: usize, j: usize, u: usize, l: &[f64], x: &[f64]) -> f64
     requires { (r < m) × (j + u < n) × (length l.now ≡ n * n) × (length x.now ≡ m * n) }
     ensures { result ≡ right_less m n l.now x.now r j u }

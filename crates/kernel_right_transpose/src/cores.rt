@@ -1,6 +1,5 @@
 // The substitution where the lengths are known to be right.
-// Kept: how long a slice is, as a fact beside the sizes. Each core is called in one place or two, with sizes and slices as the source has them; a struct that
-// holds a size and its slice would be built anew at each of them, for the one fact that it spares.
+// Kept: how long each slice is, as a fact about sizes that the slices of a call share: structs with sizes of their own would need as many facts, that these agree.
 ghost use Rattle.std.specs.Prelude.{◌≡◌, ◌*◌, ◌<◌, length};
 ghost use Rattle.kernel_right_transpose.specs.RightTranspose.{transpose_less, lower_transpose_rightsolve};
 
@@ -20,6 +19,8 @@ pub fn lower_transpose_rightsolve_core(m: usize, n: usize, l: &[f64], x: &mut [f
 }
 
 // x(r, j), less x(r, t) * L(j, t) for t = 0, .., j - 1.
+// Kept: `kernel_right::less_after` goes over other columns and reads L the other way; one function of both would take the columns and a reader of L, and share
+// these four lines alone.
 fn less_before(m: usize, n: usize, r: usize, j: usize, l: &[f64], x: &[f64]) -> f64
     requires { (r < m) × (j < n) × (length l.now ≡ n * n) × (length x.now ≡ m * n) }
     ensures { result ≡ transpose_less m n l.now x.now r j }

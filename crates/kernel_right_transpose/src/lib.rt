@@ -13,7 +13,7 @@ use kernel_right::cores::right_shapes;
 use refusal::ShapeError;
 
 // X := X L⁻ᵀ, with L of n rows and columns and X of m rows and n columns.
-// Kept: each calls its own shapes and its own core; these two lines are all that it shares with the others.
+// Kept: a name of the source, with a core of its own; the shapes are those of `kernel_right`.
 pub fn lower_transpose_rightsolve_inplace(
     m: usize,
     n: usize,

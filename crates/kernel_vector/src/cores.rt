@@ -1,12 +1,12 @@
 // The product where the lengths are known to be right.
-// Kept: how long a slice is, as a fact beside the sizes. Each core is called in one place or two, with sizes and slices as the source has them; a struct that
-// holds a size and its slice would be built anew at each of them, for the one fact that it spares.
+// Kept: how long each slice is, as a fact about sizes that the slices of a call share: structs with sizes of their own would need as many facts, that these agree.
 ghost use Rattle.std.specs.Prelude.{◌≡◌, ◌*◌, ◌<◌, length};
 ghost use Rattle.kernel_vector.specs.Vector.{row_sum, sub_mat_plus_vec};
 
 use scalar::cores::{each_less, entry};
 
 // y := y - A b
+// Kept: one line over `each_less`, which is what the product with the transpose is too.
 pub fn sub_mat_plus_vec_core(m: usize, n: usize, y: &mut [f64], a: &[f64], b: &[f64])
     requires { (length y.old ≡ m) × (length a.now ≡ m * n) × (length b.now ≡ n) }
     ensures { y.new ≡ sub_mat_plus_vec m n y.old a.now b.now }
@@ -15,6 +15,7 @@ pub fn sub_mat_plus_vec_core(m: usize, n: usize, y: &mut [f64], a: &[f64], b: &[
 }
 
 // The sum of row r's products with b.
+// Kept: the product with the transpose goes down a column where this goes along a row; one function of both would take the reader of A, and share these four lines.
 pub fn row_sum(m: usize, n: usize, a: &[f64], b: &[f64], r: usize) -> f64
     requires { (r < m) × (length a.now ≡ m * n) × (length b.now ≡ n) }
     ensures { result ≡ row_sum m n a.now b.now r }

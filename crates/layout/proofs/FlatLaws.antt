@@ -16,7 +16,8 @@ use Rattle.buckets.proofs.Turns.{before-next}
 use Rattle.tables.specs.Verdict.{at, area_at, areas, past_diagonal}
 use Rattle.tables.specs.Sound.{Columns}
 use Rattle.scalars.specs.Scalars.{scalar_starts, scalar_count}
-use Rattle.scalars.proofs.ScalarLaws.{starts-at, nothing-before}
+use Rattle.buckets.proofs.Laws.{nothing-before}
+use Rattle.scalars.proofs.ScalarLaws.{starts-at}
 use Rattle.scalars.proofs.BodyLaws.{offset-first, offset-next, offsets-at}
 use Rattle.machine.proofs.ListLaws.{gather_ext}
 use Rattle.block_product.specs.Working.{slot}

@@ -14,14 +14,13 @@ pub fn square(sizes: &[u32], out: &mut [u32])
 }
 
 // The greatest dimension.
+// Kept: `max` of an iterator promises an item that is some greatest, and a law as long as this loop would have to make the definition of it.
 pub fn widest_of(sizes: &[u32]) -> u32
     ensures { result ≡ widest sizes.now }
 {
     let mut most = 0;
     for &size in sizes {
-        if most < size {
-            most = size;
-        }
+        most = most.max(size);
     }
     most
 }

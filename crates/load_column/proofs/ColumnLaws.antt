@@ -1,28 +1,21 @@
 -- The loop over a column's rows. `UpTo` is its invariant: the diagonal block and the rows before place u of L's row table have their places
 -- and are loaded. `up_more` a turn, `up_placed` and `up_blocks` where it ends. Assumes nothing.
-use Rattle.std.specs.Prelude.{◌≡◌, ℕ, zero, suc, ◌+◌, ◌-◌, ◌*◌, ◌<◌, ◌≤◌, T, List, [], ◌∷◌, length, set}
+use Rattle.std.specs.Prelude.{◌≡◌, ℕ, ◌+◌, ◌-◌, ◌*◌, ◌<◌, ◌≤◌, T, List, length, set}
 use mathlib.Core.Logic.{inl, ⊎_elim}
 use mathlib.Core.Path.{sym, ap, subst, ◌∙◌}
 use native.Mathlib.Nat.{eq-or-lt_of_le}
 use native.Mathlib.Omega.{arith}
 use lib.Ieee.{Float}
 use lib.Seq.{get_or-set_same, get_or-set_other}
-use Rattle.graph.specs.Sets.{elem, Inc}
+use Rattle.graph.specs.Sets.{elem}
 use Rattle.graph.proofs.SetLaws.{elem-cases}
-use Rattle.buckets.proofs.Lists.{elem_at}
 use Rattle.scalar.specs.Block.{within}
 use Rattle.tables.specs.Verdict.{at}
 use Rattle.order.proofs.Laws.{place-of}
 use Rattle.block_product.specs.Working.{slot}
 use Rattle.block_product.proofs.SlotLaws.{at_slot, slot-length, slot-written, slot-other}
 use Rattle.layout.specs.Layout.{Tables, side, start_of, stop_of, rows_at, on_at, RowsLaid, Placed}
-
--- an increasing list by its places
-pub inc-at : (l : List ℕ) → Inc l → (a b : ℕ) → a < b → b < length l → at l a < at l b
-inc-at [] i a b h k = absurd (omega arith)
-inc-at (x ∷ l) i a zero h k = absurd (omega arith)
-inc-at (x ∷ l) i zero (suc b) h k = i.0 (at l b) (elem_at l b (omega arith))
-inc-at (x ∷ l) i (suc a) (suc b) h k = inc-at l i.1 a b (omega arith) (omega arith)
+use Rattle.layout.proofs.RowLaws.{inc-rises}
 
 module _ (t : Tables) (j : ℕ) where
   -- row v of L's row table, and where its block begins in the working column
@@ -64,7 +57,7 @@ module _ (t : Tables) (j : ℕ) where
         let s = start_of t j in
         let e = laid.column j h in
         let long : length (rows_at t j) ≡ stop_of t j - s = slot-length t.l_rows s (stop_of t j - s) (omega arith) in
-        let r = inc-at (rows_at t j) (laid.ascends j h) (v - s) (u - s) (omega arith) (omega (arith, long)) in
+        let r = inc-rises (rows_at t j) (laid.ascends j h) (v - s) (u - s) (omega arith) (omega (arith, long)) in
         let a : at (rows_at t j) (v - s) ≡ at t.l_rows (s + (v - s)) = at_slot t.l_rows s (stop_of t j - s) (v - s) (omega arith) in
         let b : at (rows_at t j) (u - s) ≡ at t.l_rows (s + (u - s)) = at_slot t.l_rows s (stop_of t j - s) (u - s) (omega arith) in
         let x : s + (v - s) ≡ v = omega arith in

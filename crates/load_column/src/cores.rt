@@ -1,6 +1,7 @@
 // One column of the permuted matrix is loaded into the working column, where the tables are known to be good.
-// Kept: that a body has as many numbers as its sizes say, and that a place in the working column fits a u32, is about a slice that is lent beside them.
-ghost use Rattle.std.specs.Prelude.{◌≡◌, ℕ, ◌+◌, ◌*◌, ◌<◌, ◌≤◌, not, map, length, ◌==◌, nat_lt, slice_set};
+// Kept: `Source`, `Kept` and `ColumnRises`, each one named record of what the lists of a `Matrix` keep; and how long a body is, as a fact beside its sizes: a block
+// with its sizes would be a struct made for each row of the loop.
+ghost use Rattle.std.specs.Prelude.{◌≡◌, ℕ, ◌+◌, ◌-◌, ◌*◌, ◌<◌, ◌≤◌, not, map, length, ◌==◌, nat_lt, slice_set};
 ghost use Rattle.std.specs.Float.{binary64};
 ghost use Rattle.std.specs.Float.Ieee.{add};
 ghost use Rattle.scalar.specs.Scalar.{nought};
@@ -9,6 +10,7 @@ ghost use Rattle.tables.specs.Search.{first, fault};
 ghost use Rattle.tables.specs.Verdict.{at};
 ghost use Rattle.scalars.specs.Bodies.{transposed, landed};
 ghost use Rattle.machine.specs.System.{System};
+ghost use Rattle.block_product.specs.Working.{slot};
 ghost use Rattle.layout.specs.Layout.{laid, RowsLaid};
 ghost use Rattle.load_column.specs.Load.{Source, Fed, LoadedColumn};
 ghost use Rattle.load_column.specs.Blocks.{ColumnRises, Kept, stored_block, block_at};
@@ -16,7 +18,6 @@ ghost use Rattle.load_column.specs.Blocks.{ColumnRises, Kept, stored_block, bloc
 use lists::{Matrix, Tables};
 use scalar::clear;
 use scalar::cores::entry;
-use tables::cores::wide;
 
 // Column j: its diagonal block first, then its rows as they lie in L's values. places[i] becomes where block (i, j) begins in c.
 pub fn load_column(a: &Matrix, t: &Tables, j: usize, places: &mut [u32], c: &mut [f64])
@@ -76,25 +77,32 @@ fn load_block(a: &Matrix, i: usize, j: usize, y: &mut [f64])
 }
 
 // A's block (row, column), transposed where it lands above the diagonal; zeros where A stores none.
+// Kept: `above` is a value and no step: the search, the part that is cut and what is known of it are the same for both, and two calls would write them twice.
 fn load_stored(a: &Matrix, row: usize, column: usize, above: bool, y: &mut [f64])
     requires kept { Kept a.now.dims.now a.now.starts.now a.now.rows.now a.now.values.now a.now.bodies.now }
     requires row_in_bounds { (row < length a.now.dims.now) × (column < length a.now.dims.now) × (length y.old ≡ at a.now.dims.now row * at a.now.dims.now column) }
     ensures { y.new ≡ stored_block a.now.dims.now a.now.starts.now a.now.rows.now a.now.values.now above row column }
 {
     match find_row(a.starts, a.rows, row, column) {
-        Some(p) => {
-            let b = a.bodies[p] as usize;
-            let e = a.bodies[p + 1] as usize;
-            load_body(
-                a.dims[row] as usize,
-                a.dims[column] as usize,
-                above,
-                &a.values[b..e],
-                y,
-            );
-        }
+        Some(p) => load_body(
+            a.dims[row] as usize,
+            a.dims[column] as usize,
+            above,
+            body_at(a, p),
+            y,
+        ),
         None => clear(y),
     }
+}
+
+// The body of the block that A stores at place p.
+fn body_at<'a>(a: &Matrix<'a>, p: usize) -> &'a [f64]
+    requires { (p + 1 < length a.now.bodies.now) × (at a.now.bodies.now p ≤ at a.now.bodies.now (p + 1)) × (at a.now.bodies.now (p + 1) ≤ length a.now.values.now) }
+    ensures { result.now ≡ slot (at a.now.bodies.now p) (at a.now.bodies.now (p + 1) - at a.now.bodies.now p) a.now.values.now }
+{
+    let b = a.bodies[p] as usize;
+    let e = a.bodies[p + 1] as usize;
+    &a.values[b..e]
 }
 
 // The place of A's block (row, column) among the stored ones, if A stores it.
@@ -102,9 +110,9 @@ pub fn find_row(starts: &[u32], rows: &[u32], row: usize, column: usize) -> Opti
     requires { ColumnRises starts.now rows.now column }
     ensures { result ≡ fault (λ p. not (at rows.now p == row)) (at starts.now column) (at starts.now (column + 1)) }
 {
-    let end = wide(starts[column + 1]);
-    let place = lower_bound(rows, wide(starts[column]), end, row);
-    if place < end && wide(rows[place]) == row {
+    let end = starts[column + 1] as usize;
+    let place = lower_bound(rows, starts[column] as usize, end, row);
+    if place < end && rows[place] as usize == row {
         return Some(place);
     }
     None
@@ -116,10 +124,11 @@ pub fn lower_bound(rows: &[u32], from: usize, end: usize, row: usize) -> usize
     requires rises { (p q : ℕ) → from ≤ p → p < q → q < end → at rows.now p < at rows.now q }
     ensures { result ≡ first (λ p. nat_lt (at rows.now p) row) from end }
 {
-    from + rows[from..end].partition_point(|r| wide(*r) < row)
+    from + rows[from..end].partition_point(|r| (*r as usize) < row)
 }
 
 // y becomes 0.0 + each number of a body of height h and width w, transposed where it lands above the diagonal.
+// Kept: `above` chooses here, once for both places that a block can have. `scalars::cores::permute_body` is the same without 0.0 +.
 fn load_body(h: usize, w: usize, above: bool, body: &[f64], y: &mut [f64])
     requires { (length body.now ≡ h * w) × (length y.old ≡ h * w) }
     ensures { y.new ≡ map (add binary64 nought) (landed above h w body.now) }
@@ -136,12 +145,13 @@ fn load_plain(body: &[f64], y: &mut [f64])
     requires { length y.old ≡ length body.now }
     ensures { y.new ≡ map (add binary64 nought) body.now }
 {
-    for t in 0..body.len() {
-        y[t] = 0.0 + body[t];
+    for (t, &v) in body.iter().enumerate() {
+        y[t] = 0.0 + v;
     }
 }
 
 // y becomes 0.0 + each number of the transpose of a body of height h and width w.
+// Kept: beside `scalars::cores::transpose`, which moves numbers as they stand: to call it, and add 0.0 then, would go over each block twice.
 fn load_transposed(h: usize, w: usize, body: &[f64], y: &mut [f64])
     requires { (length body.now ≡ h * w) × (length y.old ≡ h * w) }
     ensures { y.new ≡ map (add binary64 nought) (transposed h w body.now) }

@@ -20,7 +20,15 @@ use Rattle.machine.specs.System.{inverse_of}
 use Rattle.solution.proofs.EdgeLaws.{scattered-turn, scattered-all}
 use Rattle.marks.specs.declared.cores.Mark.{Mark}
 use Rattle.marks.specs.declared.cores.Mark.TheVariants.{Silent, Heard}
+use mir.Val.{bool_byte}
+use denote.Enum.Bare.{sameb}
+use Rattle.marks.specs.contracts.cores.Mark.{the_type}
 use Rattle.marks.specs.Mark.{mark, byte_at, marks_of, silent_one, silent_at, silent_of}
+
+-- what a comparison with silent counts
+pub counted-one : (m : Mark) {n : ℕ} → n ≡ bool_byte (sameb the_type m Silent) → n ≡ silent_one m
+counted-one Silent e = e
+counted-one Heard e = e
 
 -- at most one
 pub one-most : (m : Mark) → silent_one m ≤ 1

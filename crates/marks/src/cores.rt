@@ -5,10 +5,10 @@ ghost use Rattle.std.specs.Prelude.{◌≡◌, ◌+◌, ◌≤◌, length};
 ghost use Rattle.graph.specs.Order.{Permutes};
 ghost use Rattle.tables.specs.Sound.{Sizes};
 ghost use Rattle.scalars.specs.Scalars.{scalar_starts, scalar_count};
-ghost use Rattle.marks.specs.Mark.{mark, byte_of, silent_one, silent_of, marks_of};
+ghost use Rattle.marks.specs.Mark.{mark, byte_of, silent_of, marks_of};
 
 // What a scalar's stored d says of its sensor.
-#[derive(Clone, Copy)]
+#[derive(Clone, Copy, Debug, PartialEq, Eq)]
 pub enum Mark {
     // Nothing was heard: the solution's 0.0 means no evidence.
     Silent,
@@ -23,22 +23,14 @@ pub fn mark_of(d: f64, tol: f64) -> Mark
 }
 
 // A mark as a byte.
-pub fn byte_of(m: Mark) -> u8
-    ensures { result ≡ byte_of m }
-{
-    match m {
-        Mark::Silent => 0,
-        Mark::Heard => 1,
-    }
-}
+impl From<Mark> for u8 {
+    ghost from_gives = { λ m b. b ≡ byte_of m };
 
-// 1 where a mark is silent.
-pub fn silent_one(m: Mark) -> usize
-    ensures { result ≡ silent_one m }
-{
-    match m {
-        Mark::Silent => 1,
-        Mark::Heard => 0,
+    fn from(m: Mark) -> u8 {
+        match m {
+            Mark::Silent => 0,
+            Mark::Heard => 1,
+        }
     }
 }
 
@@ -74,6 +66,7 @@ fn mark_scalars(
     ensures { (result ≡ silent_of tol d.now) × (marks.new ≡ marks_of dims.now order.now tol d.now) }
 {
     let mut silent: usize = 0;
+    // Kept: `place` goes on through two loops, which no one range counts.
     let mut place: usize = 0;
     for &block in order {
         let old = block as usize;
@@ -81,8 +74,8 @@ fn mark_scalars(
         let size = dims[old] as usize;
         for s in 0..size {
             let m = mark_of(d[place], tol);
-            marks[start + s] = byte_of(m);
-            silent += silent_one(m);
+            marks[start + s] = u8::from(m);
+            silent += usize::from(m == Mark::Silent);
             place += 1;
         }
     }

@@ -7,9 +7,10 @@ ghost use Rattle.std.specs.Prelude.{◌≡◌, length};
 ghost use Rattle.marks.specs.Marks.{told_error, Marks, marks_verdict};
 
 use crate::cores::mark_core;
-use factor_tables::cores::scalars;
+use checks::MAX_BLOCKS;
 use refusal::Refusal;
 use scalar::is_tolerance;
+use scalars::cores::scalar_count;
 use tables::cores::{first_dim, first_perm};
 
 // What an accepted call hands back.
@@ -64,7 +65,7 @@ pub fn marks(
     ensures { Marks (marks_verdict dims.now order.now (length d.now) tol (length marks.old)) dims.now order.now d.now tol marks.old result marks.new }
 {
     let n = dims.len();
-    if n > 4096 {
+    if n > MAX_BLOCKS {
         return Err(MarksError::Blocks);
     }
     if let Some(place) = first_dim(dims) {
@@ -76,7 +77,7 @@ pub fn marks(
     if !is_tolerance(tol) {
         return Err(MarksError::Tolerance);
     }
-    let need = scalars(dims);
+    let need = scalar_count(dims);
     if marks.len() < need {
         return Err(MarksError::Short { which: 0, need });
     }

@@ -5,6 +5,7 @@ use mathlib.Core.Path.{refl, sym, ap, subst, ◌∙◌}
 use native.Mathlib.Nat.{eq-or-lt_of_le}
 use native.Mathlib.Omega.{arith}
 use borrow.Author.Tests.{eqb-true, eqb-false, eq-eqb, ne_eqb}
+use Rattle.graph.proofs.Whole.{and_split, and-join}
 use Rattle.graph.specs.Sets.{elem, gather}
 use Rattle.graph.specs.Links.{rows_in, linked_in}
 use Rattle.graph.proofs.SetLaws.{eqb_of, is_true, is_false}
@@ -18,14 +19,6 @@ use Rattle.match_rows.specs.Rows.{heads, children, passed_on, lowered, lowered_b
 use Rattle.match_rows.proofs.HalvedLaws.{rises-of, listed_at, listed_place, heads-at, heads-is}
 use Rattle.match_rows.proofs.LowLaws.{Low, low-none, low-all, low-keep, low-down, low_skip, low_more, Passed, passed_none, passed-next, passed-column}
 use Rattle.match_rows.proofs.ChildLaws.{children-elim, children-intro, gather-elim, gather-intro}
-
-and_split : (a b : Bool) → T (a && b) → T a × T b
-and_split true b t = (tt, t)
-and_split false b t = absurd t
-
-and-join : (a b : Bool) → T a → T b → T (a && b)
-and-join true b t u = u
-and-join false b t u = absurd t
 
 apart-test : (p q : ℕ) → (p ≡ q → ⊥) → T (not (eqb p q))
 apart-test p q h = rw (ne_eqb p q h) tt

@@ -5,6 +5,8 @@
 //   first_stray      the lowest column that lists a row which is neither
 //   first_off        the lowest column whose parent is not its first row
 // Before the lowest of the four all columns are right.
+// Kept: the starts and the rows of L as two lists: the passes and their laws (`ColumnRises l_starts l_rows k`) are about any columns, and of a factor, which `solve_match` is lent, they would
+// read two of its eight lists and `find_row` and `lower_bound` of `load_column` would be handed them apart.
 // Kept: what the passes compare is one record, `Compared`, and that a column ascends is another, `ColumnRises`. `linked` and `lowest_unlinked` ask for less.
 ghost use Rattle.std.specs.Prelude.{◌≡◌, ℕ, ◌+◌, ◌<◌, ◌≤◌, ◌||◌, length, replicate, ◌==◌, nat_lt, slice_get};
 ghost use Rattle.graph.specs.Sets.{elem, gather};
@@ -19,7 +21,7 @@ ghost use Rattle.match_rows.specs.Rows.{Compared, children, passed_on, lowered, 
 
 use load_column::cores::{find_row, lower_bound};
 use order::cores::invert;
-use tables::cores::{NONE, first_fault, wide};
+use tables::cores::{NONE, first_fault};
 
 // A's links, under an order of elimination.
 #[derive(Clone, Copy, Drop)]
@@ -31,7 +33,7 @@ pub struct Links<'a> {
     pub order: &'a [u32],
 }
 
-// The children of each column in a list: the first of column k, and the next of each, each its number plus one; 0 ends a list.
+// The children of each column in a list, in two tables, since there is no heap: the first of column k, and the next of each, each its number plus one; 0 ends a list.
 #[derive(Clone, Copy, Drop)]
 pub struct Family<'a> {
     pub head: &'a [u32; 4096],
@@ -47,8 +49,8 @@ pub fn place_from(starts: &[u32], rows: &[u32], row: usize, column: usize, from:
     requires column_bound { (at starts.now column ≤ from) × (from ≤ at starts.now (column + 1)) × ((p : ℕ) → at starts.now column ≤ p → p < from → at rows.now p < row) }
     ensures { result ≡ first (λ p. nat_lt (at rows.now p) row) (at starts.now column) (at starts.now (column + 1)) }
 {
-    let end = wide(starts[column + 1]);
-    if end <= from || row <= wide(rows[from]) {
+    let end = starts[column + 1] as usize;
+    if end <= from || row <= rows[from] as usize {
         return from;
     }
     lower_bound(rows, from + 1, end, row)
@@ -71,8 +73,8 @@ pub fn linked(links: &Links, i: usize, k: usize) -> bool
     if i == k {
         return false;
     }
-    let p = wide(links.order[i]);
-    let q = wide(links.order[k]);
+    let p = links.order[i] as usize;
+    let q = links.order[k] as usize;
     if p < q {
         return holds(links.starts, links.rows, q, p);
     }
@@ -82,6 +84,7 @@ pub fn linked(links: &Links, i: usize, k: usize) -> bool
 // ---- a row is missing
 
 // k where it is below `least` and column k does not list row i, else `least`.
+// Kept: `least` is the bound below which a column is still looked for, and n the first such bound: as an `Option` it would be opened at each stored block to be compared.
 pub fn lower(l_starts: &[u32], l_rows: &[u32], i: usize, k: usize, least: usize) -> usize
     requires { ColumnRises l_starts.now l_rows.now k }
     ensures { result ≡ lowered (rows_in l_starts.now l_rows.now) i k least }
@@ -110,8 +113,8 @@ pub fn lower_by(
     if row == column {
         return least;
     }
-    let p = wide(inverse[row]);
-    let q = wide(inverse[column]);
+    let p = inverse[row] as usize;
+    let q = inverse[column] as usize;
     if p < q {
         return lower(l_starts, l_rows, q, p, least);
     }
@@ -132,9 +135,9 @@ pub fn lowest_unlinked(
     let n = links.order.len();
     let mut least = n;
     for c in 0..n {
-        let end = wide(links.starts[c + 1]);
-        for u in wide(links.starts[c])..end {
-            least = lower_by(inverse, l_starts, l_rows, wide(links.rows[u]), c, least);
+        let end = links.starts[c + 1] as usize;
+        for u in links.starts[c] as usize..end {
+            least = lower_by(inverse, l_starts, l_rows, links.rows[u] as usize, c, least);
         }
     }
     (least < n).then_some(least)
@@ -157,20 +160,20 @@ pub fn unpassed_in(l_starts: &[u32], l_rows: &[u32], c: usize, k: usize) -> Opti
     requires { ColumnRises l_starts.now l_rows.now c × ColumnRises l_starts.now l_rows.now k × (at l_starts.now c < at l_starts.now (c + 1)) }
     ensures { result ≡ fault (λ u. elem (at l_rows.now u) (rows_in l_starts.now l_rows.now k)) (at l_starts.now c + 1) (at l_starts.now (c + 1)) }
 {
-    let end = wide(l_starts[c + 1]);
-    let last = wide(l_starts[k + 1]);
-    let mut place = wide(l_starts[k]);
-    for u in wide(l_starts[c]) + 1..end {
+    let end = l_starts[c + 1] as usize;
+    let last = l_starts[k + 1] as usize;
+    let mut place = l_starts[k] as usize;
+    for u in l_starts[c] as usize + 1..end {
         if last <= place {
             return Some(u);
         }
-        let row = wide(l_rows[u]);
-        if wide(l_rows[place]) != row {
+        let row = l_rows[u] as usize;
+        if l_rows[place] as usize != row {
             place = place_from(l_starts, l_rows, row, k, place);
             if last <= place {
                 return Some(u);
             }
-            if row < wide(l_rows[place]) {
+            if row < l_rows[place] as usize {
                 return Some(u);
             }
         }
@@ -181,16 +184,17 @@ pub fn unpassed_in(l_starts: &[u32], l_rows: &[u32], c: usize, k: usize) -> Opti
 
 // The lowest of n columns that lacks a row of a child, if one does. The first row of a column is its parent: the others, which are
 // greater, are the parent's as well.
+// Kept: `least` is a bound, as in `lower`, where a line says why it is no `Option`.
 pub fn first_unpassed(l_starts: &[u32], l_rows: &[u32], n: usize) -> Option<usize>
     requires { Columns past_diagonal n l_starts.now l_rows.now }
     ensures { LowestOf (passed_on (rows_in l_starts.now l_rows.now) n) (rows_in l_starts.now l_rows.now) n result }
 {
     let mut least = n;
     for c in 0..n {
-        let from = wide(l_starts[c]);
-        let end = wide(l_starts[c + 1]);
+        let from = l_starts[c] as usize;
+        let end = l_starts[c + 1] as usize;
         if from < end {
-            let parent = wide(l_rows[from]);
+            let parent = l_rows[from] as usize;
             if parent < least {
                 if unpassed_in(l_starts, l_rows, c, parent).is_some() {
                     least = parent;
@@ -216,10 +220,10 @@ pub fn link_children(
     ensures { Families (rows_in l_starts.now l_rows.now) n head.new sibling.new }
 {
     for c in 0..n {
-        let from = wide(l_starts[c]);
-        let end = wide(l_starts[c + 1]);
+        let from = l_starts[c] as usize;
+        let end = l_starts[c + 1] as usize;
         if from < end {
-            let k = wide(l_rows[from]);
+            let k = l_rows[from] as usize;
             sibling[c] = head[k];
             head[k] = (c + 1) as u32;
         }
@@ -231,9 +235,9 @@ pub fn stamp_rows(l_starts: &[u32], l_rows: &[u32], c: usize, v: u32, seen: &mut
     requires { ColumnRises l_starts.now l_rows.now c × ((p : ℕ) → p < length l_rows.now → at l_rows.now p < 4096) × (length seen.old ≡ 4096) }
     ensures { seen.new ≡ stamps v (rows_in l_starts.now l_rows.now c) seen.old }
 {
-    let end = wide(l_starts[c + 1]);
-    for u in wide(l_starts[c])..end {
-        let i = wide(l_rows[u]);
+    let end = l_starts[c + 1] as usize;
+    for u in l_starts[c] as usize..end {
+        let i = l_rows[u] as usize;
         seen[i] = v;
     }
 }
@@ -252,12 +256,12 @@ pub fn stamp_children(
     requires k_lt_n { (k < n) × Families (rows_in l_starts.now l_rows.now) n family.now.head.now family.now.sibling.now × (length seen.old ≡ 4096) }
     ensures { seen.new ≡ stamps v (gather (rows_in l_starts.now l_rows.now) (children (rows_in l_starts.now l_rows.now) k n)) seen.old }
 {
-    let mut x = wide(family.head[k]);
-    // Kept: a walk down a list of children, whose end is 0.
+    let mut x = family.head[k] as usize;
+    // Kept: a walk down a list of children. There is no heap, so the lists are two tables of links, in which 0 is the end.
     while x > 0 {
         let c = x - 1;
         stamp_rows(l_starts, l_rows, c, v, seen);
-        x = wide(family.sibling[c]);
+        x = family.sibling[c] as usize;
     }
 }
 
@@ -274,7 +278,7 @@ pub fn row_given(
     requires order_len_bound { (length links.now.order.now ≤ 4096) × (k < length links.now.order.now) × (u < length l_rows.now) × (at l_rows.now u < length links.now.order.now) × (length seen.now ≡ 4096) }
     ensures { result ≡ (at seen.now (at l_rows.now u) == v || linked_in links.now.starts.now links.now.rows.now links.now.order.now (at l_rows.now u) k) }
 {
-    let i = wide(l_rows[u]);
+    let i = l_rows[u] as usize;
     if seen[i] == v {
         return true;
     }
@@ -295,8 +299,8 @@ pub fn stray_in(
     ensures { result ≡ fault (λ u. (at seen.now (at l_rows.now u) == v) || linked_in links.now.starts.now links.now.rows.now links.now.order.now (at l_rows.now u) k) (at l_starts.now k) (at l_starts.now (k + 1)) }
 {
     first_fault(
-        wide(l_starts[k]),
-        wide(l_starts[k + 1]),
+        l_starts[k] as usize,
+        l_starts[k + 1] as usize,
         |u|
             requires { Columns from_diagonal (length links.now.order.now) links.now.starts.now links.now.rows.now × Permutes (length links.now.order.now) links.now.order.now × (length links.now.order.now ≤ 4096) × (k < length links.now.order.now) × (u < length l_rows.now) × (at l_rows.now u < length links.now.order.now) × (length seen.now ≡ 4096) }
         { row_given(links, l_rows, seen, k, v, u) },
@@ -351,8 +355,8 @@ pub fn first_row(l_starts: &[u32], l_rows: &[u32], k: usize) -> Option<u32>
     requires { ColumnRises l_starts.now l_rows.now k }
     ensures { result ≡ slice_get (rows_in l_starts.now l_rows.now k) 0 }
 {
-    let from = wide(l_starts[k]);
-    if from < wide(l_starts[k + 1]) {
+    let from = l_starts[k] as usize;
+    if from < l_starts[k + 1] as usize {
         return Some(l_rows[from]);
     }
     None

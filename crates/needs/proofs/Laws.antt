@@ -1,5 +1,5 @@
 -- The first buffer that is short decides, and where none is, each need is met. Assumes nothing.
-use Prim.Native.Nat.{ℕ, suc, ◌+◌, ◌≤◌, ◌<◌, min}
+use Prim.Native.Nat.{ℕ, suc, ◌≤◌, ◌<◌, min}
 use mathlib.Core.Bool.{true, false, false≢true}
 use mathlib.Core.List.{List, [], ◌∷◌}
 use mathlib.Core.Path.{◌≡◌, refl, sym, ap, ◌∙◌}
@@ -7,10 +7,11 @@ use native.Mathlib.Omega.{arith}
 use native.Mathlib.Decide.{dec_lt}
 use lib.ListN.{length, get_or, drop, drop_of_length-le}
 use lib.Seq.{drop-cons}
-use Rattle.refusal.specs.Refusal.{Told, done, short_buffer, refuses, verdict}
+use Rattle.refusal.specs.Refusal.{Told, done, refuses, verdict}
 use Rattle.refusal.specs.Check.{need_check}
 use Rattle.refusal.proofs.Laws.{verdict-stops, verdict-goes, need-short, need-met}
-use Rattle.needs.specs.Needs.{Lent, lent_from, need_checks, AllMet}
+use Rattle.needs.specs.Needs.{Lent, lent_from, need_checks, AllMet, told_error}
+use Rattle.needs.specs.declared.ShortBuffer.{ShortBuffer}
 
 -- the law of 11: where no buffer is short, each need is met
 pub all-met : (bs : List Lent) → refuses (verdict (need_checks bs)) ≡ false → AllMet bs
@@ -55,14 +56,5 @@ module _ (have need : List ℕ) (i : ℕ) where
         ∙ ap (λ (l : List ℕ). verdict (need_checks (lent_from i (get_or have i 0 ∷ drop (suc i) have) l))) (drop-cons need i 0 n)
 
     -- this buffer is short
-    pub rest-short : get_or have i 0 < get_or need i 0 → rest have need i ≡ short_buffer i (get_or need i 0)
-    rest-short s =
-        let e = need-short i (get_or have i 0) (get_or need i 0) s in
-        front ∙ (verdict-stops _ (need_checks (lent_from (suc i) (drop (suc i) have) (drop (suc i) need))) (ap refuses e) ∙ e)
-
-    -- it is not
-    pub rest-met : get_or need i 0 ≤ get_or have i 0 → rest have need i ≡ rest have need (i + 1)
-    rest-met s = front ∙ (verdict-goes _ (need_checks (lent_from (suc i) (drop (suc i) have) (drop (suc i) need))) (need-met i (get_or have i 0) (get_or need i 0) s) ∙ ap (rest have need) (one i))
-      where
-        one : (i : ℕ) → suc i ≡ i + 1
-        one i = omega arith
+    pub rest_short : (w : ShortBuffer) → told_error w ≡ need_check i (get_or have i 0) (get_or need i 0) → rest have need i ≡ told_error w
+    rest_short w e = front ∙ (verdict-stops _ (need_checks (lent_from (suc i) (drop (suc i) have) (drop (suc i) need))) (ap refuses (sym e)) ∙ sym e)

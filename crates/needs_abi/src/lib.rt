@@ -10,13 +10,15 @@ ghost use Rattle.tables.specs.Sound.{Sizes};
 ghost use Rattle.needs_abi.specs.Outcome.{told, told_error};
 ghost use Rattle.needs_abi.specs.Needs.{counts_verdict, sizes_verdict, tree_needs, reach_needs, plan_needs, factor_needs, cached_needs, shaped, solve_needs, marks_needs, ExportsNeeds};
 
-use factor_core::cores::lesser;
-use factor_tables::cores::{scalars, unit_numbers, work_numbers};
+use checks::{MAX_BLOCKS, MAX_STORED};
+use factor_tables::cores::{unit_numbers, work_numbers};
 use refusal::Refusal;
 use report::carry;
+use scalars::cores::scalar_count;
 use tables::cores::first_dim;
 
 // The refusals of a call that tells needs.
+#[derive(Clone, Copy, Debug, PartialEq, Eq)]
 enum NeedsError {
     // 1
     Blocks,
@@ -124,7 +126,8 @@ pub extern "C" fn beyqaloosh_factorize_with_cache_needs(
     let first = factor_list(dims, stored, l_blocks, l_numbers);
     let n = dims.len();
     let handed_in = n + (n + 1) + stored + numbers as usize + n + n;
-    let cache = lesser(l_numbers as usize, 16 * (1 + handed_in)) as u64;
+    let cache = (l_numbers as usize).min(16 * (1 + handed_in)) as u64;
+    // Kept: tried by `copy_from_slice` and the last place: the search does not find what the 22 are then.
     *needs = [
         first[0], first[1], first[2], first[3], first[4], first[5], first[6], first[7], first[8],
         first[9], first[10], first[11], first[12], first[13], first[14], first[15], first[16],
@@ -147,7 +150,7 @@ pub extern "C" fn beyqaloosh_solve_inplace_needs(
         return refuse(e, told);
     }
     let n = dims.len() as u64;
-    let all = scalars(dims) as u64;
+    let all = scalar_count(dims) as u64;
     *needs = [all, all, all, n, n + 1];
     carry(told, 0, 0, 0, 0)
 }
@@ -165,7 +168,7 @@ pub extern "C" fn beyqaloosh_marks_needs(
         *needs = [0; 1];
         return refuse(e, told);
     }
-    *needs = [scalars(dims) as u64];
+    *needs = [scalar_count(dims) as u64];
     carry(told, 0, 0, 0, 0)
 }
 
@@ -191,7 +194,7 @@ fn factor_list(dims: &[u32], stored: usize, l_blocks: u32, l_numbers: u32) -> [u
     let m = stored as u64;
     let l = l_blocks as u64;
     let units = unit_numbers(dims) as u64;
-    let all = scalars(dims) as u64;
+    let all = scalar_count(dims) as u64;
     let work = work_numbers(dims) as u64;
     [
         n,
@@ -234,10 +237,10 @@ fn check_counts(blocks: usize, stored: usize) -> Result<(), NeedsError>
     ensures says { told result ≡ counts_verdict blocks stored }
     ensures fits { OnOk result ((blocks ≤ 4096) × (stored ≤ 65536)) }
 {
-    if blocks > 4096 {
+    if blocks > MAX_BLOCKS {
         return Err(NeedsError::Blocks);
     }
-    if stored > 65536 {
+    if stored > MAX_STORED {
         return Err(NeedsError::Stored);
     }
     Ok(())
@@ -248,13 +251,13 @@ fn check_sizes(dims: &[u32], stored: usize) -> Result<(), NeedsError>
     ensures says { told result ≡ sizes_verdict dims.now stored }
     ensures fits { OnOk result (Sizes dims.now × (length dims.now ≤ 4096) × (stored ≤ 65536)) }
 {
-    if dims.len() > 4096 {
+    if dims.len() > MAX_BLOCKS {
         return Err(NeedsError::Blocks);
     }
     if let Some(place) = first_dim(dims) {
         return Err(NeedsError::Dimension { place });
     }
-    if stored > 65536 {
+    if stored > MAX_STORED {
         return Err(NeedsError::Stored);
     }
     Ok(())

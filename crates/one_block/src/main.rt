@@ -4,7 +4,7 @@
 
 use dense_ldlt::ldlt_decompose_inplace;
 use dense_solve::ldlt_solve_inplace;
-use digits::cores::{bits_of, put_hex};
+use digits::cores::{Writer, bits_of};
 use refusal::Refusal;
 
 fn main() {
@@ -32,20 +32,19 @@ fn night(a: &mut [f64; 4], d: &mut [f64; 2], x: &mut [f64; 2]) {
             io::print_decimal(1, r.rank as u64);
             io::write_all(1, b"\n");
         }
-        Err(refusal) => return refuse(refusal.number()),
+        Err(refusal) => return refuse(&refusal),
     }
     let solved = ldlt_solve_inplace(2, a, d, x);
     if let Err(refusal) = solved {
-        return refuse(refusal.number());
+        return refuse(&refusal);
     }
     line(0, x[0], d[0]);
     line(1, x[1], d[1]);
 }
 
-// Kept: the number, which is what is printed.
-fn refuse(number: u32) {
+fn refuse<R: Refusal>(refusal: &R) {
     io::write_all(1, b"refused ");
-    io::print_decimal(1, number as u64);
+    io::print_decimal(1, u64::from(refusal.number()));
     io::write_all(1, b"\n");
 }
 
@@ -62,9 +61,13 @@ fn line(i: u64, x: f64, d: f64) {
 }
 
 // Sixteen upper-case hexadecimal digits.
-// Kept: they are those of `digits`, which an answer to a sheet is proved to have, and not those of a `Display`.
+// Kept: the digits are those of crate `digits`, which an answer to a sheet is proved to have, and no `Display` has them.
 fn print_bits(bits: u64) {
     let mut text = [0u8; 16];
-    put_hex(&mut text, 0, bits);
+    let mut w = Writer {
+        out: &mut text,
+        at: 0,
+    };
+    w.hex(bits);
     io::write_all(1, &text);
 }

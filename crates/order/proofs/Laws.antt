@@ -12,7 +12,7 @@ use lib.Seq.{sets, sets-eq, length-sets, drop-cons, take-suc, take_all, take_at,
 use Rattle.graph.specs.Sets.{elem, keep, filter, from, Uniq}
 use Rattle.graph.specs.Order.{is_late, moved, Permutes}
 use Rattle.graph.proofs.SetLaws.{decide, eqb_of, elem-head, elem-tail, elem-cases, filter-intro, from-intro, is_true, is_false}
-use Rattle.graph.proofs.OrderLaws.{moved-permutes}
+use Rattle.graph.proofs.OrderLaws.{filter-short, moved-permutes}
 use Rattle.buckets.proofs.Lists.{elem_at}
 use Rattle.order.specs.Order.{in_group, group, Inverse, sizes_of}
 
@@ -40,15 +40,6 @@ get_or-from a zero i h = absurd (omega arith)
 get_or-from a (suc c) zero h = omega arith
 get_or-from a (suc c) (suc i) h = get_or-from (suc a) c i (omega arith) ∙ omega arith
 
--- no more pass a test than there are
-filter-few : (p : ℕ → Bool) (l : List ℕ) → length (filter p l) ≤ length l
-filter-few p [] = omega arith
-filter-few p (x ∷ l) = go (p x) (filter-few p l)
-  where
-    go : (b : Bool) → length (filter p l) ≤ length l → length (keep b x (filter p l)) ≤ suc (length l)
-    go true h = omega arith
-    go false h = omega arith
-
 -- ---- n numbers below n, none twice, are all of them
 
 abbrev without : ℕ → List ℕ → List ℕ
@@ -67,7 +58,7 @@ without_fewer x [] t = absurd t
 without_fewer x (y ∷ l) t = go (eqb y x) refl (⊎_elim (λ e n. absurd (n e)) (λ s n. without_fewer x l s) (elem-cases x y l t))
   where
     go : (b : Bool) → eqb y x ≡ b → ((x ≡ y → ⊥) → length (without x l) < length l) → length (keep (not b) y (without x l)) < suc (length l)
-    go true e rest = let h = filter-few (λ y. not (eqb y x)) l in omega arith
+    go true e rest = let h = filter-short (λ y. not (eqb y x)) l in omega arith
     go false e rest = let h = rest (λ q. is_false e (eqb_of (sym q))) in omega arith
 
 -- a list with no element twice is no longer than one that has all of them

@@ -13,6 +13,7 @@ fn keep(perm: &[u32], late: &[u32], flagged: bool, order: &mut [u32], at: usize)
     ensures value { result ≡ at + length (group flagged late.now perm.now) }
     ensures order_after { order.new ≡ sets order.old at (group flagged late.now perm.now) }
 {
+    // Kept: `place` goes on where a block is of the group, which no range counts, and a filtered list has no place in a list that is lent.
     let mut place = at;
     for &block in perm {
         let is_late = late[block as usize] != 0;

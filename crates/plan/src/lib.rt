@@ -1,7 +1,7 @@
 // The plan of a night, from A's tables, the permutation and the late flags: what L has in all, where each of its columns begins, and
 // its rows. Numbers are not read: the plan of a night holds for every night of the same pattern.
-// Kept: that the night has passed, as a fact: `plan`, `plan_core` and `analysis` are one call cut in pieces, and a struct around the night would be opened in each.
-// Kept: what is asked of a single number, a place or a count, as a fact of the one call that has it.
+// Kept: that the night has passed, as one named record, in the four calls that `plan` is cut into (`lent_core`, `exact_core`, `planned_core`, `analyze`). Tried as a struct around the
+// night: its ghost field must be a proposition, so it is that this verdict accepts, and `factor_fit`, whose system has passed another verdict, would have to prove that before it can analyze.
 #![tactic(auto)]
 
 ghost use Rattle.std.specs.Prelude.{◌≡◌, ◌≤◌, OnOk};
@@ -26,7 +26,7 @@ pub fn plan(a: &Night, o: &mut Outputs, w: &mut Scratch) -> Result<Counts, PlanE
     ensures outputs { SameOutputs o.old o.new }
     ensures scratch { SameScratch w.old w.new }
 {
-    check_plan(a.dims, a.starts, a.rows, a.perm, a.late)?;
+    check_plan(a)?;
     lent_core(
         a, o.order, o.parents, o.l_starts, o.l_rows, w.inverse, w.sizes, w.count, w.heads, w.into,
         w.stamps, w.table, w.upper,
@@ -34,7 +34,7 @@ pub fn plan(a: &Night, o: &mut Outputs, w: &mut Scratch) -> Result<Counts, PlanE
 }
 
 // The plan of tables that have passed: the buffers' needs, then the work in the first places of each.
-// Kept: what is lent buffer by buffer, since each is cut.
+// Kept: what is lent buffer by buffer: of a cut of a struct's field nothing is known afterwards, only of a parameter's.
 fn lent_core(
     a: &Night,
     order: &mut [u32],
@@ -91,7 +91,8 @@ fn lent_core(
 }
 
 // The plan in buffers that each have exactly their need, L's row table apart.
-// Kept: what is lent buffer by buffer, since it is cut from longer buffers: of a cut that goes into a struct nothing is known afterwards.
+// Kept: what is lent buffer by buffer. Tried with the two structs made in `lent_core`, of parts cut by `split_at_mut`: the check of the twelve buffers, each joined again to what
+// stands beyond its part, outgrows its memory.
 fn exact_core(
     a: &Night,
     order: &mut [u32],

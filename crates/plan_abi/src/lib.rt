@@ -15,7 +15,6 @@ use report::carry;
 
 // The plan: `plan::plan`. Accepted, `told` has L's blocks, L's numbers and the products; refused, the place, or the buffer and its
 // need, and zeros after.
-// Kept: the places one by one, as the C interface hands them in.
 #[unsafe(no_mangle)]
 pub extern "C" fn beyqaloosh_plan(
     dims: &[u32],

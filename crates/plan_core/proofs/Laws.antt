@@ -27,6 +27,7 @@ use Rattle.analysis.specs.declared.cores.Analysis.{Analysis}
 use Rattle.analysis.proofs.Same.{same-columns, same-stored, same-starts, same-l-rows, tree_of}
 use Rattle.scratch.specs.Scratch.{SameScratch, Cleared}
 use Rattle.scratch.specs.declared.Scratch.{Scratch}
+use Rattle.scratch.proofs.Laws.{zero_of}
 use Rattle.plan_core.specs.Plan.{told, Night, Places, places, lent_of, blocks, links, whole, answer, Plans, Exact}
 use Rattle.plan_core.specs.declared.Outputs.{Outputs}
 use Rattle.analysis.specs.declared.cores.Counts.{Counts}
@@ -95,10 +96,6 @@ module _ (a : Night) (count heads into upper : List ℕ) (r : Analysis) (g : Rea
 -- nothing stands beyond the need
 pub exact : (n : ℕ) (xs new : List ℕ) → length xs ≡ n → new ≡ new ++ drop n xs
 exact n xs new e = let h : length xs ≤ n = omega arith in sym (ap (λ (l : List ℕ). new ++ l) (drop_of_length-le xs h) ∙ append-nil new)
-
--- a buffer that was cleared
-pub zero_of : {n m : ℕ} {xs : List ℕ} → xs ≡ replicate m 0 → m ≡ n → xs ≡ replicate n 0
-zero_of e f = e ∙ ap (λ (k : ℕ). replicate k 0) f
 
 -- the scratch afterwards
 pub record Zeros (a : Night) (b : Places) : Type 0 where

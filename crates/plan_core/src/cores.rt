@@ -1,5 +1,5 @@
 // The plan where the tables have passed and each buffer but L's row table has exactly its need.
-// Kept: that the night has passed, as a fact: `plan`, `plan_core` and `analysis` are one call cut in pieces, and a struct around the night would be opened in each.
+// Kept: that the night has passed, as one named record: `plan` says why it is in no struct.
 ghost use Rattle.std.specs.Prelude.{◌≡◌, ◌+◌, length, replicate};
 ghost use Rattle.refusal.specs.Refusal.{done};
 ghost use Rattle.tables.specs.Sound.{PlanSound};

@@ -65,6 +65,7 @@ impl Refusal for PlanError {
 }
 
 // Tables that are refused refuse the plan in the same words.
+// Kept: each call's error has just that call's cases, as document 01 lists them, so each goes into the next case by case.
 impl From<PlanTablesError> for PlanError {
     ghost from_gives = { λ e r. told_error r ≡ told_plan_error e };
 

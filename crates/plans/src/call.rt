@@ -6,8 +6,8 @@ use crate::told::{says_plan, says_system};
 use plan::{Night, Outputs, Scratch};
 use word_list::cases::{BadList, Case, kind};
 use word_list::entry::float;
-use word_list::lent::{lent, output, scratch, table};
-use word_list::room::{BLOCKS, STORED, held};
+use word_list::lent::{all_scratch, output, table};
+use word_list::room::{BLOCKS, Room, STORED, held};
 
 // The room for a table of L's blocks, and for values.
 const L_ROWS: usize = 131072;
@@ -51,12 +51,7 @@ pub fn next() -> Result<Option<Case>, BadList> {
 
 // Whether the tables and buffers of a case have room.
 fn fits(call: Call, h: &[u32; 26]) -> bool {
-    for k in 0..lengths(call) {
-        if h[k] as usize > room(k) {
-            return false;
-        }
-    }
-    true
+    (0..lengths(call)).all(|k| h[k] as usize <= room(k))
 }
 
 // How many of the words in front are lengths.
@@ -80,84 +75,85 @@ fn room(k: usize) -> usize {
 
 // A plan: its tables are the next words of the list.
 fn planned(h: &[u32; 26]) -> bool {
-    let k0 = held(h[0], BLOCKS);
-    let k1 = held(h[1], BLOCKS);
-    let k2 = held(h[2], STORED);
-    let k3 = held(h[3], BLOCKS);
-    let k4 = held(h[4], BLOCKS);
-    let dims: [u32; 4112] = table(k0);
-    let starts: [u32; 4112] = table(k1);
-    let rows: [u32; 65552] = table(k2);
-    let perm: [u32; 4112] = table(k3);
-    let late: [u32; 4112] = table(k4);
+    let dims: Room<u32, BLOCKS> = Room::table(h[0]);
+    let starts: Room<u32, BLOCKS> = Room::table(h[1]);
+    let rows: Room<u32, STORED> = Room::table(h[2]);
+    let perm: Room<u32, BLOCKS> = Room::table(h[3]);
+    let late: Room<u32, BLOCKS> = Room::table(h[4]);
     let night = Night {
-        dims: &dims[..k0],
-        starts: &starts[..k1],
-        rows: &rows[..k2],
-        perm: &perm[..k3],
-        late: &late[..k4],
+        dims: dims.part(),
+        starts: starts.part(),
+        rows: rows.part(),
+        perm: perm.part(),
+        late: late.part(),
     };
     lending(h, &night)
 }
 
 // Its buffers are marked, and each is lent as long as the list says.
 fn lending(h: &[u32; 26], a: &Night) -> bool {
-    let k5 = held(h[5], BLOCKS);
-    let k6 = held(h[6], BLOCKS);
-    let k7 = held(h[7], BLOCKS);
-    let k8 = held(h[8], L_ROWS);
-    let k9 = held(h[9], BLOCKS);
-    let k10 = held(h[10], BLOCKS);
-    let k11 = held(h[11], BLOCKS);
-    let k12 = held(h[12], BLOCKS);
-    let k13 = held(h[13], BLOCKS);
-    let k14 = held(h[14], BLOCKS);
-    let k15 = held(h[15], STORED);
-    let k16 = held(h[16], STORED);
-    let mut order: [u32; 4112] = lent();
-    let mut parents: [u32; 4112] = lent();
-    let mut l_starts: [u32; 4112] = lent();
-    let mut l_rows: [u32; 131072] = lent();
-    let mut inverse: [u32; 4112] = lent();
-    let mut sizes: [u32; 4112] = lent();
-    let mut count: [u32; 4112] = lent();
-    let mut heads: [u32; 4112] = lent();
-    let mut into: [u32; 4112] = lent();
-    let mut stamps: [u32; 4112] = lent();
-    let mut table: [u32; 65552] = lent();
-    let mut upper: [u32; 65552] = lent();
+    let mut order: Room<u32, BLOCKS> = Room::lent(h[5]);
+    let mut parents: Room<u32, BLOCKS> = Room::lent(h[6]);
+    let mut l_starts: Room<u32, BLOCKS> = Room::lent(h[7]);
+    let mut l_rows: Room<u32, L_ROWS> = Room::lent(h[8]);
+    let mut inverse: Room<u32, BLOCKS> = Room::lent(h[9]);
+    let mut sizes: Room<u32, BLOCKS> = Room::lent(h[10]);
+    let mut count: Room<u32, BLOCKS> = Room::lent(h[11]);
+    let mut heads: Room<u32, BLOCKS> = Room::lent(h[12]);
+    let mut into: Room<u32, BLOCKS> = Room::lent(h[13]);
+    let mut stamps: Room<u32, BLOCKS> = Room::lent(h[14]);
+    let mut table: Room<u32, STORED> = Room::lent(h[15]);
+    let mut upper: Room<u32, STORED> = Room::lent(h[16]);
     let mut o = Outputs {
-        order: &mut order[..k5],
-        parents: &mut parents[..k6],
-        l_starts: &mut l_starts[..k7],
-        l_rows: &mut l_rows[..k8],
+        order: order.part_mut(),
+        parents: parents.part_mut(),
+        l_starts: l_starts.part_mut(),
+        l_rows: l_rows.part_mut(),
     };
     let mut w = Scratch {
-        inverse: &mut inverse[..k9],
-        sizes: &mut sizes[..k10],
-        count: &mut count[..k11],
-        heads: &mut heads[..k12],
-        into: &mut into[..k13],
-        stamps: &mut stamps[..k14],
-        table: &mut table[..k15],
-        upper: &mut upper[..k16],
+        inverse: inverse.part_mut(),
+        sizes: sizes.part_mut(),
+        count: count.part_mut(),
+        heads: heads.part_mut(),
+        into: into.part_mut(),
+        stamps: stamps.part_mut(),
+        table: table.part_mut(),
+        upper: upper.part_mut(),
     };
     let p = plan::plan(a, &mut o, &mut w);
     let answered = says_plan(h, &p);
-    let written = outputs(h, &order, &parents, &l_starts, &l_rows);
-    let clear_blocks = scratch_blocks(h, &inverse, &sizes, &count, &stamps);
-    let clear_starts = scratch_starts(h, &heads, &into);
-    let clear_stored = scratch_stored(h, &table, &upper);
-    answered && written && clear_blocks && clear_starts && clear_stored
+    let written = outputs(
+        h,
+        &order.places,
+        &parents.places,
+        &l_starts.places,
+        &l_rows.places,
+    );
+    let blocks = cleared(h, h[0] as usize);
+    let starts = cleared(h, h[0] as usize + 1);
+    let stored = cleared(h, h[2] as usize);
+    answered
+        && written
+        && all_scratch(
+            &[
+                &inverse.places,
+                &sizes.places,
+                &count.places,
+                &stamps.places,
+            ],
+            blocks,
+        )
+        && all_scratch(&[&heads.places, &into.places], starts)
+        && all_scratch(&[&table.places, &upper.places], stored)
 }
 
 // Whether the outputs hold what the list says, and beyond it their marks: all of them where it says nothing.
 fn outputs(
     h: &[u32; 26],
-    order: &[u32; 4112],
-    parents: &[u32; 4112],
-    l_starts: &[u32; 4112],
-    l_rows: &[u32; 131072],
+    order: &[u32; BLOCKS],
+    parents: &[u32; BLOCKS],
+    l_starts: &[u32; BLOCKS],
+    l_rows: &[u32; L_ROWS],
 ) -> bool {
     let starts = h[25] as usize;
     let blocks = if starts == 0 { 0 } else { h[0] as usize };
@@ -169,57 +165,27 @@ fn outputs(
 }
 
 // How many places of a scratch buffer end as 0: its need where the list says so, else none.
+// Kept: `factors` has it too, by another word of its list.
 fn cleared(h: &[u32; 26], need: usize) -> usize {
     if h[20] == 1 { need } else { 0 }
 }
 
-fn scratch_blocks(
-    h: &[u32; 26],
-    inverse: &[u32; 4112],
-    sizes: &[u32; 4112],
-    count: &[u32; 4112],
-    stamps: &[u32; 4112],
-) -> bool {
-    let need = cleared(h, h[0] as usize);
-    let a = scratch(inverse, need);
-    let b = scratch(sizes, need);
-    let c = scratch(count, need);
-    let d = scratch(stamps, need);
-    a && b && c && d
-}
-
-fn scratch_starts(h: &[u32; 26], heads: &[u32; 4112], into: &[u32; 4112]) -> bool {
-    let need = cleared(h, h[0] as usize + 1);
-    scratch(heads, need) && scratch(into, need)
-}
-
-fn scratch_stored(h: &[u32; 26], table: &[u32; 65552], upper: &[u32; 65552]) -> bool {
-    let need = cleared(h, h[2] as usize);
-    scratch(table, need) && scratch(upper, need)
-}
-
 // A check of a system: the count of values at 5, the tolerance at 6 and 7.
 fn system(h: &[u32; 26]) -> bool {
-    let k0 = held(h[0], BLOCKS);
-    let k1 = held(h[1], BLOCKS);
-    let k2 = held(h[2], BLOCKS);
-    let k3 = held(h[3], BLOCKS);
-    let k4 = held(h[4], BLOCKS);
-    let k5 = held(h[5], VALUES);
-    let dims: [u32; 4112] = table(k0);
-    let starts: [u32; 4112] = table(k1);
-    let rows: [u32; 4112] = table(k2);
-    let perm: [u32; 4112] = table(k3);
-    let late: [u32; 4112] = table(k4);
-    let values = [0.0; 4096];
+    let dims: Room<u32, BLOCKS> = Room::table(h[0]);
+    let starts: Room<u32, BLOCKS> = Room::table(h[1]);
+    let rows: Room<u32, BLOCKS> = Room::table(h[2]);
+    let perm: Room<u32, BLOCKS> = Room::table(h[3]);
+    let late: Room<u32, BLOCKS> = Room::table(h[4]);
+    let values = [0.0; VALUES];
     let tolerance = float(h[6], h[7]);
     let s = checks::check_system(
-        &dims[..k0],
-        &starts[..k1],
-        &rows[..k2],
-        &values[..k5],
-        &perm[..k3],
-        &late[..k4],
+        dims.part(),
+        starts.part(),
+        rows.part(),
+        &values[..held(h[5], VALUES)],
+        perm.part(),
+        late.part(),
         tolerance,
     );
     says_system(h, &s)

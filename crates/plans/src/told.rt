@@ -1,17 +1,11 @@
 // What a call answers, and whether the list says the same.
+use bits::whole;
 use checks::SystemError;
 use plan::{Counts, PlanError};
 use refusal::{Refusal, number_of};
-use word_list::entry::whole;
-
-// What L has where the call is refused.
-const NOTHING: Counts = Counts {
-    stored: 0,
-    numbers: 0,
-    products: 0,
-};
 
 // A refusal with the two places that it carries, 0 where it has none.
+// Kept: a trait of the program's own: the errors are of other crates, and so would be a trait in `word_list`, which then could not be implemented here.
 trait Carries {
     fn carried(&self) -> (usize, usize);
 }
@@ -60,16 +54,18 @@ fn says<T, E: Refusal + Carries>(h: &[u32; 26], answer: &Result<T, E>) -> bool {
 }
 
 // Whether they have L's blocks and numbers, and the products.
-fn counted(h: &[u32; 26], counts: Counts) -> bool {
-    h[21] as usize == counts.stored
-        && h[22] as usize == counts.numbers
-        && whole(h[23], h[24]) == counts.products
+fn counted(h: &[u32; 26], stored: usize, numbers: usize, products: u64) -> bool {
+    h[21] as usize == stored && h[22] as usize == numbers && whole(h[23], h[24]) == products
 }
 
 pub fn says_plan(h: &[u32; 26], answer: &Result<Counts, PlanError>) -> bool {
-    says(h, answer) && counted(h, answer.unwrap_or(NOTHING))
+    let (stored, numbers, products) = answer.map_or(
+        (0, 0, 0),
+        |c| (c.stored, c.numbers, c.products),
+    );
+    says(h, answer) && counted(h, stored, numbers, products)
 }
 
 pub fn says_system(h: &[u32; 26], answer: &Result<(), SystemError>) -> bool {
-    says(h, answer) && counted(h, NOTHING)
+    says(h, answer) && counted(h, 0, 0, 0)
 }

@@ -1,9 +1,8 @@
 -- What `reach` answers in each case. Assumes nothing.
-use Rattle.std.proofs.Common.{◌≡◌, ℕ, ◌+◌, ◌-◌, ◌<◌, ◌≤◌, Bool, true, cond, List, [], ◌∷◌, ◌++◌, length, get_or, take, drop, sym, refl, ap, ◌∙◌, append_assoc, arith, take-take, le-ltb, lt-ltb}
+use Rattle.std.proofs.Common.{◌≡◌, ℕ, ◌+◌, ◌-◌, ◌<◌, Bool, true, cond, List, [], ◌∷◌, ◌++◌, length, get_or, take, drop, sym, refl, ap, ◌∙◌, append_assoc, arith, take-take, lt-ltb}
 use lib.Seq.{slice}
-use Rattle.refusal.specs.Refusal.{Told, done, accepted, short_buffer, shapes_disagree, refuses, first_of, verdict, verdict_after, after}
-use Rattle.refusal.specs.Check.{need_check}
-use Rattle.refusal.proofs.Laws.{first-refuses, stays-refused, need-short, need-met}
+use Rattle.refusal.specs.Refusal.{Told, done, accepted, shapes_disagree, refuses, first_of, verdict, verdict_after, after}
+use Rattle.refusal.proofs.Laws.{first-refuses, stays-refused}
 use Rattle.tables.specs.Verdict.{tree_verdict}
 use Rattle.tables.specs.Sound.{TreeSound}
 use Rattle.reach.specs.Reach.{Parents, State, mark_of, reach_of}
@@ -20,28 +19,10 @@ pub rule-of : (starts rows parents : List ℕ) → TreeSound starts rows parents
 unfolding Parents
 rule-of starts rows parents t = t.parents
 
--- ---- the buffers' needs and the block
+-- ---- the block
 
-module _ (n j stamps found : ℕ) where
-  pub stamps-short : stamps < n → verdict (needs n j stamps found) ≡ short_buffer 0 n
-  stamps-short h = ap (λ (t : Told). verdict_after t (need_check 1 found n ∷ block_check j n ∷ [])) (need-short 0 stamps n h)
-
-  -- past the stamps
-  past-stamps : n ≤ stamps → verdict (needs n j stamps found) ≡ verdict (need_check 1 found n ∷ block_check j n ∷ [])
-  past-stamps h = ap (λ (t : Told). verdict_after t (need_check 1 found n ∷ block_check j n ∷ [])) (need-met 0 stamps n h)
-
-  pub found-short : n ≤ stamps → found < n → verdict (needs n j stamps found) ≡ short_buffer 1 n
-  found-short s h = past-stamps s ∙ ap (λ (t : Told). verdict_after t (block_check j n ∷ [])) (need-short 1 found n h)
-
-  -- past the list
-  past-found : n ≤ stamps → n ≤ found → verdict (needs n j stamps found) ≡ block_check j n
-  past-found s h = past-stamps s ∙ ap (λ (t : Told). verdict_after t (block_check j n ∷ [])) (need-met 1 found n h)
-
-  pub past-last : n ≤ stamps → n ≤ found → n ≤ j → verdict (needs n j stamps found) ≡ shapes_disagree 0
-  past-last s f h = past-found s f ∙ ap (λ (b : Bool). cond b done (shapes_disagree 0)) (le-ltb j n h)
-
-  pub needs-met : n ≤ stamps → n ≤ found → j < n → verdict (needs n j stamps found) ≡ done
-  needs-met s f h = past-found s f ∙ ap (λ (b : Bool). cond b done (shapes_disagree 0)) (lt-ltb j n h)
+pub block-met : (j n : ℕ) → j < n → block_check j n ≡ done
+block-met j n h = ap (λ (b : Bool). cond b done (shapes_disagree 0)) (lt-ltb j n h)
 
 -- ---- the answer in each case
 

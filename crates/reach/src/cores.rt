@@ -1,10 +1,10 @@
 // The walk of an elimination tree where the tables are known to be good: a u32 mark advanced by a wrapping add, stamps cleared
-// where it returns to 0 or a stamp already holds it, and a climb inside the column scan that is left by a labelled break at a
+// where it returns to 0 or a stamp already holds it, and a climb inside the column scan that is left at a
 // mark or a root. What is found is written from the end of the lent buffer backwards, so it is listed last found first.
-// Kept: what is asked of a table or of its length, as a fact of each call: tables of many kinds are lent here, and a struct for one would be built at each call and
-// taken apart at the next.
-ghost use Rattle.std.specs.Prelude.{◌≡◌, ℕ, ◌+◌, ◌-◌, ◌<◌, ◌≤◌, Bool, true, ◌++◌, length, take, replicate};
-ghost use Rattle.reach.specs.Reach.{none, Parents, any_is, mark_of, stamps_of, reached, reach_of};
+// Kept: that the parents are a tree, and how long the stamps and the list are, as two facts of the two steps: `scan` is called by `reach_core` and `symbolic::walk` alone, which
+// are lent the lists apart, so each would build a struct for this one call.
+ghost use Rattle.std.specs.Prelude.{◌≡◌, ℕ, ◌+◌, ◌-◌, ◌<◌, ◌≤◌, ◌++◌, length, take};
+ghost use Rattle.reach.specs.Reach.{Parents, mark_of, stamps_of, reached, reach_of};
 
 use tables::cores::NONE;
 
@@ -15,32 +15,14 @@ pub struct Mark {
     pub top: usize,
 }
 
-// Whether a stamp holds the mark.
-pub fn holds(stamp: &[u32], mark: u32) -> bool
-    ensures { result ≡ any_is mark stamp.now }
-{
-    stamp.contains(&mark)
-}
-
-// Every stamp becomes 0.
-pub fn clear(stamp: &mut [u32])
-    ensures { stamp.new ≡ replicate (length stamp.old) 0 }
-{
-    stamp.fill(0);
-}
-
 // The next mark: the old one plus one, wrapping. Where that is 0 or a stamp holds it, all stamps become 0 and the mark 1.
 pub fn advance(stamp: &mut [u32], mark: u32) -> u32
     ensures value { result ≡ mark_of stamp.old mark }
     ensures stamp_after { stamp.new ≡ stamps_of stamp.old mark }
 {
-    let next = std::num::wrapping_add_u32(mark, 1);
-    if next == 0 {
-        clear(stamp);
-        return 1;
-    }
-    if holds(stamp, next) {
-        clear(stamp);
+    let next = mark.wrapping_add(1);
+    if next == 0 || stamp.contains(&next) {
+        stamp.fill(0);
         return 1;
     }
     next
@@ -66,17 +48,14 @@ pub fn scan(
     for &row in rows {
         let mut i = row;
         if i < j {
-            'climb: loop {
-                let at = i as usize;
-                if stamp[at] == mark {
-                    break 'climb;
-                }
+            // Kept: it climbs a tree and counts nothing.
+            while stamp[i as usize] != mark {
                 top -= 1;
                 out[top] = i;
-                stamp[at] = mark;
-                let up = parent[at];
+                stamp[i as usize] = mark;
+                let up = parent[i as usize];
                 if up == NONE {
-                    break 'climb;
+                    break;
                 }
                 i = up;
             }

@@ -6,10 +6,12 @@ pub mod cores;
 ghost use Rattle.std.specs.Prelude.{◌≡◌, length};
 ghost use Rattle.tables.specs.Sound.{TreeSound};
 ghost use Rattle.refusal.specs.Refusal.{verdict};
+ghost use Rattle.needs.specs.Needs.{told_error as told_short};
 ghost use Rattle.upper_checks.specs.Outcome.{told_tree_error};
 ghost use Rattle.reach.specs.Walk.{told_error, needs, reach_verdict, Walks};
 
 use crate::cores::{Mark, reach_core};
+use needs::{ShortBuffer, first_short};
 use refusal::Refusal;
 use upper_checks::{TreeError, check_tree};
 
@@ -49,6 +51,7 @@ impl Refusal for ReachError {
 }
 
 // Tables that are refused refuse the walk in the same words.
+// Kept: each call's error has just that call's cases, as document 01 lists them, so each goes into the next case by case.
 impl From<TreeError> for ReachError {
     ghost from_gives = { λ e r. told_error r ≡ told_tree_error e };
 
@@ -59,6 +62,17 @@ impl From<TreeError> for ReachError {
             TreeError::Row { place } => ReachError::Row { place },
             TreeError::Parent { place } => ReachError::Parent { place },
             TreeError::Order { place } => ReachError::Order { place },
+        }
+    }
+}
+
+impl From<ShortBuffer> for ReachError {
+    ghost from_gives = { λ e r. told_error r ≡ told_short e };
+
+    fn from(e: ShortBuffer) -> ReachError {
+        ReachError::Short {
+            which: e.which,
+            need: e.need,
         }
     }
 }
@@ -94,12 +108,7 @@ fn walked_core(
     ensures { Walks (verdict (needs (length parents.now) j (length stamps.old) (length found.old))) starts.now rows.now parents.now j mark stamps.old found.old result stamps.new found.new }
 {
     let n = parents.len();
-    if stamps.len() < n {
-        return Err(ReachError::Short { which: 0, need: n });
-    }
-    if found.len() < n {
-        return Err(ReachError::Short { which: 1, need: n });
-    }
+    first_short(&[stamps.len(), found.len()], &[n, n])?;
     if n <= j {
         return Err(ReachError::Past { place: 0 });
     }

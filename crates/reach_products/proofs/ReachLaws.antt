@@ -3,11 +3,9 @@
 --     next-there, next_more                the next place of a column not yet worked is as it was; one further
 --     turn                                 what is known of the column of a turn
 -- Assumes nothing.
-use Rattle.std.specs.Prelude.{◌≡◌, ℕ, zero, suc, ◌+◌, ◌-◌, ◌^◌, ◌<◌, ◌≤◌, T, eqb, List, [], ◌∷◌, ◌++◌, map, length, get_or, take, drop, set}
+use Rattle.std.specs.Prelude.{◌≡◌, ℕ, ◌+◌, ◌-◌, ◌^◌, ◌<◌, ◌≤◌, T, eqb, List, [], ◌∷◌, ◌++◌, map, length, get_or, take, drop, set}
 use mathlib.Core.List.{append-nil, append_assoc}
-use mathlib.Core.Logic.{⊎_elim}
 use mathlib.Core.Path.{refl, sym, ap, subst, ◌∙◌}
-use native.Mathlib.Nat.{le_of_suc-le-suc}
 use native.Mathlib.Numerals.{add-one}
 use native.Mathlib.Omega.{arith}
 use lib.Ieee.{Float}
@@ -15,9 +13,9 @@ use lib.ListN.{length-set, length-append, length-map, take-append-drop}
 use lib.Seq.{take-suc, take_all, get_or-set_other}
 use Rattle.graph.specs.Sets.{elem, gather, Uniq}
 use Rattle.graph.specs.Count.{Triple, triple}
-use Rattle.graph.proofs.SetLaws.{elem-tail, elem-cases, eqb_of, or_left}
-use Rattle.buckets.proofs.Lists.{elem_at}
+use Rattle.graph.proofs.SetLaws.{elem-tail, eqb_of, or_left}
 use Rattle.tables.specs.Verdict.{at}
+use Rattle.tables.proofs.PassLaws.{once-before}
 use Rattle.machine.specs.Machine.{State, Column, column_at, no_column, products}
 use Rattle.machine.proofs.StepLaws.{products-finished}
 use Rattle.block_product.specs.Working.{Shows}
@@ -41,20 +39,6 @@ advanced-other (x ∷ ks) next k h =
 advanced-last : (ks next : List ℕ) (k : ℕ) → advanced (ks ++ (k ∷ [])) next ≡ set (advanced ks next) k (at (advanced ks next) k + 1)
 advanced-last [] next k = refl
 advanced-last (x ∷ ks) next k = advanced-last ks (set next x (at next x + 1)) k
-
--- in a list with no element twice, an element is not among those before it
-elem-take : (l : List ℕ) (t x : ℕ) → T (elem x (take t l)) → T (elem x l)
-elem-take l zero x m = absurd m
-elem-take [] (suc t) x m = absurd m
-elem-take (y ∷ l) (suc t) x m =
-    ⊎_elim (λ e. or_left (eqb x y) (elem x l) (eqb_of e)) (λ m'. elem-tail x y l (elem-take l t x m')) (elem-cases x y (take t l) m)
-
-once-before : (l : List ℕ) (t : ℕ) → Uniq l → t < length l → T (elem (at l t) (take t l)) → ⊥
-once-before l zero u h m = m
-once-before [] (suc t) u h m = m
-once-before (x ∷ l) (suc t) u h m =
-    ⊎_elim (λ e. u.0 (subst (λ (y : ℕ). T (elem y l)) e (elem_at l t (le_of_suc-le-suc h)))) (once-before l t u.1 (le_of_suc-le-suc h))
-    (elem-cases (at l t) x (take t l) m)
 
 next-there : (reach next : List ℕ) (t : ℕ) → Uniq reach → t < length reach → at (advanced (take t reach) next) (at reach t) ≡ at next (at reach t)
 next-there reach next t u h = advanced-other (take t reach) next (at reach t) (once-before reach t u h)

@@ -7,6 +7,7 @@ use column_products::cores::{Part, Working, apply_column};
 use lists::{Numbers, Tables};
 
 // By each column k of `reach`, in its order. Row j of column k stands at place next[k] of the tables, which goes one further.
+// Kept: the count is handed on to `apply_column`.
 pub fn apply_reach(
     t: &Tables,
     f: &Numbers,
@@ -23,8 +24,8 @@ pub fn apply_reach(
     ensures same { SameWorking w.old w.new }
 {
     let mut n = count;
-    for u in 0..reach.len() {
-        let k = reach[u] as usize;
+    for &reaching in reach {
+        let k = reaching as usize;
         let from = next[k];
         let end = t.l_starts[k + 1] as usize;
         let p = Part {

@@ -1,11 +1,9 @@
 -- The laws of verdicts and of checks. Assumes nothing.
 use mathlib.Core.Path.{◌≡◌, refl, sym, ◌∙◌, ap}
 use mathlib.Core.Bool.{Bool, true, false, cond}
-use Prim.Native.Nat.{ℕ, zero, suc, ◌*◌, ◌/◌, ◌%◌, ◌≤◌, ◌<◌}
-use native.Mathlib.Nat.{mul-mod_right, mul_comm, div-add-mod', div-eq_of_eq-mul_right}
+use Prim.Native.Nat.{ℕ, zero, suc, ◌*◌, ◌≤◌, ◌<◌}
 use native.Mathlib.Omega.{arith}
-use lib.Dec.{eqb}
-use borrow.Author.Tests.{eqb-true, eqb-false, eq-eqb, ne_eqb, lt-ltb, le-ltb}
+use borrow.Author.Tests.{eqb-true, eq-eqb, ne_eqb, lt-ltb, le-ltb}
 use Rattle.refusal.specs.Refusal.{Told, tells, done, short_buffer, shapes_disagree, refuses, first_of, verdict_after, verdict}
 use Rattle.refusal.specs.Check.{need_check, area_check}
 use Rattle.refusal.specs.Shaped.{told_error}
@@ -61,7 +59,7 @@ area-fits place h w count e = rw (eq-eqb count (h * w) e)
 
 -- ---- what a check that passes says
 
-of_test : (b : Bool) (v : Told) → refuses v ≡ true → refuses (cond b done v) ≡ false → b ≡ true
+pub of_test : (b : Bool) (v : Told) → refuses v ≡ true → refuses (cond b done v) ≡ false → b ≡ true
 of_test true v r e = refl
 of_test false v r e = cc
 
@@ -88,6 +86,11 @@ all-pass-after v (check ∷ checks) e =
 pub all_pass : (checks : List Told) → refuses (verdict checks) ≡ false → AllPass checks
 all_pass checks e = (all-pass-after done checks e).1
 
+-- and back: checks of which none refuses pass, after a verdict that does not refuse
+pub pass-after : (v : Told) (checks : List Told) → refuses v ≡ false → AllPass checks → refuses (verdict_after v checks) ≡ false
+pass-after v [] e p = e
+pass-after v (check ∷ checks) e p = pass-after (first_of v check) checks (sym (ap refuses (first_passes v check e)) ∙ p.0) p.1
+
 -- ---- one check after the other, each by `?`: what `grind` is handed
 
 pub after_error : (e : ShapeError) (next : Told) → first_of (told_error e) next ≡ told_error e
@@ -98,23 +101,3 @@ pub after_done : (next : Told) → first_of done next ≡ next
 after_done next = refl
 
 pub ruleset in_order = (after_error, after_done)
-
--- ---- quotients
-
-module _ (h : ℕ) (positive : h ≡ 0 → ⊥) where
-  -- a remainder shows that a number is no multiple
-  pub not-multiple : (count w : ℕ) → (count % h ≡ 0 → ⊥) → eqb count (h * w) ≡ false
-  not-multiple count w r = ne_eqb _ _ (λ e. r (ap (λ (k : ℕ). k % h) e ∙ mul-mod_right h w))
-
-  -- with none, the quotient decides
-  pub quotient-decides : (count w : ℕ) → count % h ≡ 0 → eqb (count / h) w ≡ eqb count (h * w)
-  quotient-decides count w r = by-test (eqb (count / h) w) refl
-    where
-      above : 0 < h
-      above = omega (arith, positive)
-
-      by-test : (b : Bool) → eqb (count / h) w ≡ b → eqb (count / h) w ≡ eqb count (h * w)
-      by-test true e =
-          let whole : h * (count / h) ≡ h * w = ap (λ (k : ℕ). h * k) (eqb-true (count / h) w e) in
-          e ∙ sym (eq-eqb count (h * w) (omega (arith, div-add-mod' count h, mul_comm h (count / h))))
-      by-test false e = e ∙ sym (ne_eqb count (h * w) (λ m. eqb-false _ _ e (div-eq_of_eq-mul_right above m)))

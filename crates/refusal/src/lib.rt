@@ -61,23 +61,11 @@ pub fn size(least: usize, place: usize, n: usize) -> Result<(), ShapeError>
     Ok(())
 }
 
-// Whether a slice of `count` numbers holds a block of that height and width exactly. The product is formed only where it
-// fits; a quotient serves elsewhere.
+// Whether a slice of `count` numbers holds a block of that height and width exactly.
 pub fn is_area(count: usize, height: usize, width: usize) -> bool
     ensures { result ≡ eqb count (height * width) }
 {
-    if height <= 65536 {
-        if width <= 65536 {
-            return count == height * width;
-        }
-    }
-    if height == 0 {
-        return count == 0;
-    }
-    if count % height != 0 {
-        return false;
-    }
-    count / height == width
+    height.checked_mul(width) == Some(count)
 }
 
 // A slice of `count` numbers passes where it holds the block exactly.

@@ -7,15 +7,15 @@ use Rattle.digits.specs.Digits.{digits, places, bits_of}
 use Rattle.render.specs.Lines.{scalar_line, lines, answer_text, refused_line}
 
 -- `blocks 2 scalars 2 stored 1 products 1 silent 0`
-abbrev line0 : List ℕ
+abbrev pub line0 : List ℕ
 line0 = 98 ∷ 108 ∷ 111 ∷ 99 ∷ 107 ∷ 115 ∷ 32 ∷ 50 ∷ 32 ∷ 115 ∷ 99 ∷ 97 ∷ 108 ∷ 97 ∷ 114 ∷ 115 ∷ 32 ∷ 50 ∷ 32 ∷ 115 ∷ 116 ∷ 111 ∷ 114 ∷ 101 ∷ 100 ∷ 32 ∷ 49 ∷ 32 ∷ 112 ∷ 114 ∷ 111 ∷ 100 ∷ 117 ∷ 99 ∷ 116 ∷ 115 ∷ 32 ∷ 49 ∷ 32 ∷ 115 ∷ 105 ∷ 108 ∷ 101 ∷ 110 ∷ 116 ∷ 32 ∷ 48 ∷ 10 ∷ []
 
 -- `0 3FF8000000000000 heard`
-abbrev line1 : List ℕ
+abbrev pub line1 : List ℕ
 line1 = 48 ∷ 32 ∷ 51 ∷ 70 ∷ 70 ∷ 56 ∷ 48 ∷ 48 ∷ 48 ∷ 48 ∷ 48 ∷ 48 ∷ 48 ∷ 48 ∷ 48 ∷ 48 ∷ 48 ∷ 48 ∷ 32 ∷ 104 ∷ 101 ∷ 97 ∷ 114 ∷ 100 ∷ 10 ∷ []
 
 -- `1 3FF0000000000000 heard`
-abbrev line2 : List ℕ
+abbrev pub line2 : List ℕ
 line2 = 49 ∷ 32 ∷ 51 ∷ 70 ∷ 70 ∷ 48 ∷ 48 ∷ 48 ∷ 48 ∷ 48 ∷ 48 ∷ 48 ∷ 48 ∷ 48 ∷ 48 ∷ 48 ∷ 48 ∷ 48 ∷ 32 ∷ 104 ∷ 101 ∷ 97 ∷ 114 ∷ 100 ∷ 10 ∷ []
 
 -- two blocks, one stored in L, one product, none silent; the solution is 1.5 and 1.0, both heard

@@ -12,7 +12,7 @@ use Rattle.render.specs.Lines.{field, blocks_label, scalars_label, stored_label,
 
 module _ (at room : ℕ) (text more : List ℕ) (h : at + length (text ++ more) ≤ room) where
   -- where two pieces have the room, the first has
-  pub fits-front : at + length text ≤ room
+  fits-front : at + length text ≤ room
   fits-front = omega (arith, length-append text more)
 
   -- and the second behind it
@@ -45,9 +45,6 @@ module _ (at : ℕ) (out : List ℕ) (a b c d e f : List ℕ) (h : at + length (
 
   fits2 : at + length (a ++ b) ≤ length out
   fits2 = fits-front _ _ (a ++ b) c fits3
-
-  pub room-1 : at + length a ≤ length out
-  room-1 = fits-front _ _ a b fits2
 
   module _ {r1 : ℕ} {out1 : List ℕ} (p1 : Puts at a out r1 out1) where
     pub room-2 : r1 + length b ≤ length out1

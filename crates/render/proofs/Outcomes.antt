@@ -1,6 +1,6 @@
 -- What a rendering leaves: as it was where it is refused, else the text in front. Assumes nothing.
 use Rattle.std.specs.Prelude.{◌≡◌, ℕ, ◌+◌, ◌<◌, ◌≤◌, true, List, [], ◌∷◌, ◌++◌, length, drop}
-use mathlib.Core.Path.{sym, ap, ◌∙◌}
+use mathlib.Core.Path.{sym, ap, subst, ◌∙◌}
 use native.Mathlib.Omega.{arith}
 use borrow.Author.Tests.{le-leb, lt-leb, eq-eqb, ne_eqb}
 use lib.Ieee.{Float}
@@ -51,3 +51,7 @@ module _ (text out : List ℕ) where
     shapes_agree h n =
         let v : verdict (shape_checks x marks) ≡ done = rw (le-leb (length x) 65536 h, eq-eqb (length marks) (length x) n) in
         sym (ap (λ (t : Told). first_of t (text_verdict text out)) v)
+
+-- the buffer as it is once a writer has let it go
+pub renders-back : {v : Told} {text out : List ℕ} {t : Told} {left : List ℕ} (back : List ℕ) → back ≡ left → Renders v text out t left → Renders v text out t back
+renders-back {v} {text} {out} {t} back e r = subst (λ (o : List ℕ). Renders v text out t o) (sym e) r

@@ -1,73 +1,73 @@
-// The lines of an answer, written at a place of a lent buffer that has the room; each function answers the place behind its line.
+// The lines of an answer, each written behind the one before into a lent buffer that has the room.
 ghost use Rattle.std.specs.Prelude.{◌≡◌, ◌+◌, ◌≤◌, length};
 ghost use Rattle.std.specs.Prelude.{Float};
-ghost use Rattle.digits.specs.Digits.{Puts};
+ghost use Rattle.refusal.specs.Refusal.{number};
+ghost use Rattle.digits.specs.Digits.{Writes};
 ghost use Rattle.render.specs.Lines.{field as Lines·field, line_feed, mark_word, refused_line, first_line, scalar_line, lines};
 
-use digits::cores::{bits_of, places, put_decimal, put_hex, put_text};
+use digits::cores::{Writer, bits_of, places};
+use refusal::Refusal;
 
 // A label and a number.
-pub fn field(out: &mut [u8], at: usize, label: &[u8], n: u64) -> usize
-    requires { at + length (Lines·field label.now n) ≤ length out.old }
-    ensures { Puts at (Lines·field label.now n) out.old result out.new }
+pub fn field(w: &mut Writer, label: &[u8], n: u64)
+    requires { w.old.at + length (Lines·field label.now n) ≤ length w.old.out.now }
+    ensures { Writes (Lines·field label.now n) w.old w.new }
 {
-    let next = put_text(out, at, label);
-    put_decimal(out, next, n)
+    w.text(label);
+    w.decimal(n);
 }
 
 // A refusal's line.
-// Kept: the number, which is what is printed.
-pub fn refused_line(out: &mut [u8], at: usize, number: u64) -> usize
-    requires { at + length (refused_line number) ≤ length out.old }
-    ensures { Puts at (refused_line number) out.old result out.new }
+pub fn refused_line<R: Refusal>(w: &mut Writer, refusal: &R)
+    requires { w.old.at + length (refused_line (number (R.told refusal.now))) ≤ length w.old.out.now }
+    ensures { Writes (refused_line (number (R.told refusal.now))) w.old w.new }
 {
-    let next = field(out, at, b"refused ", number);
-    put_text(out, next, b"\n")
+    field(w, b"refused ", u64::from(refusal.number()));
+    w.text(b"\n");
 }
 
 // The first line of an accepted answer.
 pub fn first_line(
-    out: &mut [u8],
-    at: usize,
+    w: &mut Writer,
     blocks: u64,
     scalars: u64,
     stored: u64,
     products: u64,
     silent: u64,
-) -> usize
-    requires { at + length (first_line blocks scalars stored products silent) ≤ length out.old }
-    ensures { Puts at (first_line blocks scalars stored products silent) out.old result out.new }
+)
+    requires { w.old.at + length (first_line blocks scalars stored products silent) ≤ length w.old.out.now }
+    ensures { Writes (first_line blocks scalars stored products silent) w.old w.new }
 {
-    let a = field(out, at, b"blocks ", blocks);
-    let b = field(out, a, b" scalars ", scalars);
-    let c = field(out, b, b" stored ", stored);
-    let d = field(out, c, b" products ", products);
-    let e = field(out, d, b" silent ", silent);
-    put_text(out, e, b"\n")
+    field(w, b"blocks ", blocks);
+    field(w, b" scalars ", scalars);
+    field(w, b" stored ", stored);
+    field(w, b" products ", products);
+    field(w, b" silent ", silent);
+    w.text(b"\n");
 }
 
 // A mark's word: silent where it is 0, else heard.
-pub fn mark_word(out: &mut [u8], at: usize, mark: u8) -> usize
-    requires { at + length (mark_word mark) ≤ length out.old }
-    ensures { Puts at (mark_word mark) out.old result out.new }
+pub fn mark_word(w: &mut Writer, mark: u8)
+    requires { w.old.at + length (mark_word mark) ≤ length w.old.out.now }
+    ensures { Writes (mark_word mark) w.old w.new }
 {
     if mark == 0 {
-        put_text(out, at, b" silent")
+        w.text(b" silent");
     } else {
-        put_text(out, at, b" heard")
+        w.text(b" heard");
     }
 }
 
 // A scalar's line.
-pub fn scalar_line(out: &mut [u8], at: usize, k: u64, x: f64, mark: u8) -> usize
-    requires { at + length (scalar_line k x mark) ≤ length out.old }
-    ensures { Puts at (scalar_line k x mark) out.old result out.new }
+pub fn scalar_line(w: &mut Writer, k: u64, x: f64, mark: u8)
+    requires { w.old.at + length (scalar_line k x mark) ≤ length w.old.out.now }
+    ensures { Writes (scalar_line k x mark) w.old w.new }
 {
-    let a = put_decimal(out, at, k);
-    let b = put_text(out, a, b" ");
-    let c = put_hex(out, b, bits_of(x));
-    let d = mark_word(out, c, mark);
-    put_text(out, d, b"\n")
+    w.decimal(k);
+    w.text(b" ");
+    w.hex(bits_of(x));
+    mark_word(w, mark);
+    w.text(b"\n");
 }
 
 // How many bytes a scalar's line has, whatever its solution is.
@@ -87,8 +87,8 @@ pub fn lines_length(x: &[f64], marks: &[u8]) -> usize
     ensures { (result ≡ length (lines x.now marks.now (length x.now))) × (result ≤ 2949120) }
 {
     let mut sum: usize = 0;
-    for k in 0..x.len() {
-        sum += line_length(k as u64, marks[k]);
+    for (k, &mark) in marks.iter().enumerate() {
+        sum += line_length(k as u64, mark);
     }
     sum
 }
@@ -101,13 +101,12 @@ pub fn first_length(blocks: u64, scalars: u64, stored: u64, products: u64, silen
 }
 
 // The lines of all scalars.
-pub fn put_lines(out: &mut [u8], at: usize, x: &[f64], marks: &[u8]) -> usize
-    requires { (length marks.now ≡ length x.now) × (at + length (lines x.now marks.now (length x.now)) ≤ length out.old) }
-    ensures { Puts at (lines x.now marks.now (length x.now)) out.old result out.new }
+pub fn put_lines(w: &mut Writer, x: &[f64], marks: &[u8])
+    requires { (length marks.now ≡ length x.now) × (w.old.at + length (lines x.now marks.now (length x.now)) ≤ length w.old.out.now) }
+    ensures { Writes (lines x.now marks.now (length x.now)) w.old w.new }
 {
-    let mut next = at;
-    for k in 0..x.len() {
-        next = scalar_line(out, next, k as u64, x[k], marks[k]);
+    // Kept: the mark by its place: with `zip` the loop keeps an iterator of pairs, and how many it has given is to be counted beside the place.
+    for (k, &value) in x.iter().enumerate() {
+        scalar_line(w, k as u64, value, marks[k]);
     }
-    next
 }

@@ -4,11 +4,12 @@
 pub mod cores;
 
 ghost use Rattle.std.specs.Prelude.{length};
+ghost use Rattle.refusal.specs.Refusal.{number};
 ghost use Rattle.render.specs.Lines.{refused_line, answer_text};
 ghost use Rattle.render.specs.Rendered.{told, told_error, told_line, told_short, Renders, text_verdict, answer_verdict};
 
 use crate::cores::{first_length, first_line, lines_length, put_lines, refused_line};
-use digits::cores::places;
+use digits::cores::{Writer, places};
 use refusal::Refusal;
 
 // How many bytes were written.
@@ -52,16 +53,16 @@ impl Refusal for AnswerError {
 }
 
 // A refusal's line, from the first place on.
-// Kept: the number, which is what is printed.
-pub fn refused(number: u64, out: &mut [u8]) -> Result<Text, ShortText>
-    ensures { Renders (text_verdict (refused_line number) out.old) (refused_line number) out.old (told_line result) out.new }
+pub fn refused<R: Refusal>(refusal: &R, out: &mut [u8]) -> Result<Text, ShortText>
+    ensures { Renders (text_verdict (refused_line (number (R.told refusal.now))) out.old) (refused_line (number (R.told refusal.now))) out.old (told_line result) out.new }
 {
-    let need = places(number) + 9;
+    let need = places(u64::from(refusal.number())) + 9;
     if out.len() < need {
         return Err(ShortText { need });
     }
-    let bytes = refused_line(out, 0, number);
-    Ok(Text { bytes })
+    let mut w = Writer { out, at: 0 };
+    refused_line(&mut w, refusal);
+    Ok(Text { bytes: w.at })
 }
 
 // An accepted answer, from the first place on: the first line, then a line for each scalar of the solution x, with its mark: 0 is
@@ -88,7 +89,8 @@ pub fn answer(
     if out.len() < need {
         return Err(AnswerError::Short { need });
     }
-    let next = first_line(out, 0, blocks, scalars, stored, products, silent);
-    let bytes = put_lines(out, next, x, marks);
-    Ok(Text { bytes })
+    let mut w = Writer { out, at: 0 };
+    first_line(&mut w, blocks, scalars, stored, products, silent);
+    put_lines(&mut w, x, marks);
+    Ok(Text { bytes: w.at })
 }

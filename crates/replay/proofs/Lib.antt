@@ -1,2 +1,2 @@
--- What belongs to no one function: the laws of words and of single floats.
+-- What belongs to no one function: the laws of single floats.
 pub mod Laws

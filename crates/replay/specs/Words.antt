@@ -2,17 +2,11 @@
 use Rattle.std.specs.Prelude.{ℕ, ◌+◌, ◌*◌, ◌/◌, ◌<◌, min, Bool, true, cond, List, ◌≡◌, ltb, Float, length, get_or}
 use Rattle.std.specs.Float.{nan, binary64}
 use Rattle.std.specs.Float.Ieee.{of_bits}
-
--- two and four bytes from p on
-abbrev pub two_at : List ℕ → ℕ → ℕ
-two_at s p = get_or s p 0 + 256 * get_or s (p + 1) 0
-
-abbrev pub four_at : List ℕ → ℕ → ℕ
-four_at s p = two_at s p + 65536 * two_at s (p + 2)
+use Rattle.bits.specs.Bytes.{u64_at}
 
 -- the word at a place, 0 past the end
 unfoldable pub word_at : List ℕ → ℕ → ℕ
-word_at s at = cond (ltb at (length s / 8)) (four_at s (at * 8) + 4294967296 * four_at s (at * 8 + 4)) 0
+word_at s at = cond (ltb at (length s / 8)) (u64_at s (at * 8)) 0
 
 -- the place some words further on, or 8,192, which is past every case
 abbrev pub onward : ℕ → ℕ → ℕ

@@ -1,9 +1,10 @@
 // The words of a list of cases, 64 bits each, little-endian: read as counts and floats, and compared. A word past the end is 0.
 #![tactic(auto)]
 
-ghost use Rattle.std.specs.Prelude.{◌≡◌, ◌+◌, ◌<◌, length};
-ghost use Rattle.replay.specs.Words.{two_at, four_at, word_at, word_float, onward, Stands, Same, Compared};
+ghost use Rattle.std.specs.Prelude.{◌≡◌};
+ghost use Rattle.replay.specs.Words.{word_at, word_float, onward, Stands, Same, Compared};
 
+use bits::cores::{set_each, u64_at};
 use bits::number;
 
 // The word at a place, as a count.
@@ -24,12 +25,7 @@ pub fn float(w: &[u8], at: usize) -> f64
 pub fn on(at: usize, by: usize) -> usize
     ensures { result ≡ onward at by }
 {
-    if at < 8192 {
-        if by < 8192 - at {
-            return at + by;
-        }
-    }
-    8192
+    at.saturating_add(by).min(8192)
 }
 
 // Whether two floats are the same, sign of zero and all. Two NaNs are.
@@ -37,59 +33,37 @@ pub fn on(at: usize, by: usize) -> usize
 pub fn same(a: f64, b: f64) -> bool
     ensures { Same a b result }
 {
-    if a != a {
-        return b != b;
+    if a.is_nan() {
+        return b.is_nan();
     }
-    if b != b {
+    if b.is_nan() {
         return false;
     }
-    f64::to_bits(a) == f64::to_bits(b)
+    a.to_bits() == b.to_bits()
 }
 
 // The floats from `at` on.
 pub fn fill(w: &[u8], at: usize, out: &mut [f64])
     ensures { Stands w.now at out.new }
 {
-    for k in 0..out.len() {
-        out[k] = float(w, on(at, k));
-    }
+    set_each(out, |k| float(w, on(at, k)));
 }
 
 // Whether the floats from `at` on are those of a.
-// Kept: `same` and not `==` is asked of each.
 pub fn same_slice(w: &[u8], at: usize, a: &[f64]) -> bool
     ensures { Compared w.now at a.now result }
 {
-    for k in 0..a.len() {
-        if !same(a[k], float(w, on(at, k))) {
-            return false;
-        }
-    }
-    true
+    a.iter()
+        .enumerate()
+        .all(|(k, &x)| same(x, float(w, on(at, k))))
 }
 
 fn word(w: &[u8], at: usize) -> u64
     ensures { result ≡ word_at w.now at }
 {
     if at < w.len() / 8 {
-        let p = at * 8;
-        return four(w, p) + 4294967296 * four(w, p + 4);
+        u64_at(w, at * 8)
+    } else {
+        0
     }
-    0
-}
-
-// Four bytes from p on.
-fn four(w: &[u8], p: usize) -> u64
-    requires { p + 3 < length w.now }
-    ensures { (result ≡ four_at w.now p) × (result < 4294967296) }
-{
-    two(w, p) + 65536 * two(w, p + 2)
-}
-
-// Two bytes from p on.
-fn two(w: &[u8], p: usize) -> u64
-    requires { p + 1 < length w.now }
-    ensures { (result ≡ two_at w.now p) × (result < 65536) }
-{
-    u64::from(w[p]) + 256 * u64::from(w[p + 1])
 }

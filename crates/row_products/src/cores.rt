@@ -37,6 +37,7 @@ struct Row {
 
 // For each of these rows, whose block begins at places[i]; qj is Q(j) d. Q(i) is taken from the cache, or worked out in qi where the cache has
 // no place for it.
+// Kept: the count is handed on to `block_product`, which adds to it.
 pub fn apply_rows(
     held: &Held,
     r: &Rows,
@@ -52,8 +53,9 @@ pub fn apply_rows(
     ensures { RowProducts (at held.now.pair.sizes.now) (at places.now) held.now.pair.j held.now.pair.k r.now.rows.now r.now.offsets.now held.now.values.now held.now.cache.now held.now.unit.now qj.now c.old count c.new result }
 {
     let mut n = count;
-    for t in 0..r.rows.len() {
-        let i = r.rows[t] as usize;
+    // Kept: the offset by its place: a loop over a `zip` of rows and offsets goes by what the iterator has left, where the contract counts from the first row on.
+    for (t, &row) in r.rows.iter().enumerate() {
+        let i = row as usize;
         let o = r.offsets[t] as usize;
         let place = places[i] as usize;
         n = apply_row(held, &Row { i, o, place }, qj, qi, c, n);
@@ -62,6 +64,7 @@ pub fn apply_rows(
 }
 
 // For one row.
+// Kept: the count is handed on to `block_product`, which adds to it.
 fn apply_row(held: &Held, r: &Row, qj: &[f64], qi: &mut [f64], c: &mut [f64], count: u64) -> u64
     requires i_in_bounds { (r.now.i < length held.now.pair.sizes.now) × (held.now.pair.j < length held.now.pair.sizes.now) × (held.now.pair.k < length held.now.pair.sizes.now) × (0 < at held.now.pair.sizes.now held.now.pair.k) × (count + 1 < 2 ^ 64) }
     requires k_in_bounds { (r.now.o + at held.now.pair.sizes.now r.now.i * at held.now.pair.sizes.now held.now.pair.k ≤ length held.now.values.now) × (at held.now.pair.sizes.now r.now.i * at held.now.pair.sizes.now held.now.pair.k ≤ length qi.old) × (r.now.place + at held.now.pair.sizes.now r.now.i * at held.now.pair.sizes.now held.now.pair.j ≤ length c.old) }

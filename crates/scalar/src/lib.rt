@@ -13,38 +13,29 @@ ghost use Rattle.scalar.specs.Scalar.{magnitude, is_finite, max, min, is_toleran
 pub fn abs(x: f64) -> f64
     ensures { result ≡ magnitude x }
 {
-    if x < 0.0 {
-        -x
-    } else if x == 0.0 {
-        0.0
-    } else {
-        x
-    }
+    x.abs()
 }
 
 // Whether |x| is at most t.
 pub fn at_most(x: f64, t: f64) -> bool
     ensures { result ≡ le (magnitude x) t }
 {
-    if x < 0.0 { -x <= t } else { x <= t }
+    abs(x) <= t
 }
 
 // Whether x is no NaN and no infinity.
 pub fn is_finite(x: f64) -> bool
     ensures { result ≡ is_finite x }
 {
-    if x < f64::from_bits(0x7ff0_0000_0000_0000) {
-        f64::from_bits(0xfff0_0000_0000_0000) < x
-    } else {
-        false
-    }
+    x.is_finite()
 }
 
 // The greater of two numbers: of a NaN and a number, the number.
+// Kept: std's `max` and `min` leave open which of the two zeros they give; these give the first.
 pub fn max(a: f64, b: f64) -> f64
     ensures { result ≡ max a b }
 {
-    if a != a {
+    if a.is_nan() {
         return b;
     }
     if a < b { b } else { a }
@@ -54,7 +45,7 @@ pub fn max(a: f64, b: f64) -> f64
 pub fn min(a: f64, b: f64) -> f64
     ensures { result ≡ min a b }
 {
-    if a != a {
+    if a.is_nan() {
         return b;
     }
     if b < a { b } else { a }

@@ -17,6 +17,7 @@ use Rattle.graph.specs.Order.{Permutes}
 use Rattle.graph.proofs.SetLaws.{elem-head, elem-tail, elem-cases, from-elim, from-intro, from-inc, inc-uniq}
 use Rattle.graph.proofs.OrderLaws.{elem-append, elem-left, elem-right, append-uniq}
 use Rattle.buckets.specs.Buckets.{before}
+use Rattle.buckets.proofs.Laws.{nothing-before}
 use Rattle.buckets.proofs.Lists.{get_or_any}
 use Rattle.buckets.proofs.Turns.{before-next, before_small}
 use Rattle.order.specs.Order.{sizes_of}
@@ -42,10 +43,6 @@ runs-apart sizes a b h =
     let r = subst (λ (m : ℕ). before sizes (a + 1) ≤ before sizes m) e (rises_by sizes (a + 1) (b - (a + 1))) in
     let n = before-next sizes a in
     omega arith
-
-pub nothing-before : (sizes : List ℕ) → before sizes 0 ≡ 0
-unfolding before
-nothing-before sizes = refl
 
 -- each scalar is one of a block's
 block_of : (sizes : List ℕ) (n x : ℕ) → x < before sizes n → (k : ℕ) × (k < n) × (before sizes k ≤ x) × (x < before sizes k + get_or sizes k 0)
@@ -183,10 +180,6 @@ sizes-at dims order k h =
     let f : ℕ → ℕ = λ old. get_or dims old 0 in
     let l = length-sizes dims order in
     get_or_any (map {A = ℕ} {B = ℕ} f order) k 0 (f 0) (omega arith) ∙ get_or-map {A = ℕ} {B = ℕ} f order k 0
-
--- the new sizes are small too
-pub sizes-small : (dims order : List ℕ) → Sizes dims → (k : ℕ) → k < length (sizes_of dims order) → get_or (sizes_of dims order) k 0 ≤ 16
-sizes-small dims order s k h = subst (λ (m : ℕ). m ≤ 16) (sym (sizes-at dims order k (omega (arith, length-sizes dims order)))) (s.small (get_or order k 0))
 
 module _ (dims order olds : List ℕ) (p : Permutes (length dims) order) (e : olds ≡ scalar_starts dims) (k : ℕ) (h : k < length order) where
   -- the old block that comes next, and where its scalars begin

@@ -8,12 +8,12 @@ pub fn clear_plan(w: &mut Scratch)
     ensures cleared { Cleared w.old w.new }
     ensures same { SameScratch w.old w.new }
 {
-    buckets::cores::fill(w.inverse, 0);
-    buckets::cores::fill(w.sizes, 0);
-    buckets::cores::fill(w.count, 0);
-    buckets::cores::fill(w.heads, 0);
-    buckets::cores::fill(w.into, 0);
-    buckets::cores::fill(w.stamps, 0);
-    buckets::cores::fill(w.table, 0);
-    buckets::cores::fill(w.upper, 0);
+    w.inverse.fill(0);
+    w.sizes.fill(0);
+    w.count.fill(0);
+    w.heads.fill(0);
+    w.into.fill(0);
+    w.stamps.fill(0);
+    w.table.fill(0);
+    w.upper.fill(0);
 }

@@ -3,13 +3,12 @@
 --     u32s-filled, f64s-filled                      a list with those entries is the table
 --     u32-take, f64-take, u32s-take                 bytes behind those that are read do not matter
 -- Assumes nothing.
-use Rattle.std.specs.Prelude.{◌≡◌, ℕ, ◌+◌, ◌*◌, ◌<◌, ◌≤◌, List, map, length, get_or, take, set}
+use Rattle.std.specs.Prelude.{◌≡◌, ℕ, ◌+◌, ◌*◌, ◌<◌, ◌≤◌, List, map, length, get_or, take}
 use mathlib.Core.Path.{sym, ap, ◌∙◌}
 use native.Mathlib.Omega.{arith}
-use borrow.Author.Count.{below_more}
 use lib.Ieee.{Float, nan}
 use lib.ListN.{length-map, get_or-map}
-use lib.Seq.{get_or-take, get_or-set_same, get_or-set_other, ext_get_or}
+use lib.Seq.{get_or-take, ext_get_or}
 use Rattle.graph.specs.Sets.{from}
 use Rattle.buckets.proofs.Lists.{get_or_any}
 use Rattle.order.proofs.Laws.{length_from, get_or-from}
@@ -31,10 +30,6 @@ module _ {A : Type 0} (f : ℕ → A) where
   mapped-all count d xs l each =
       let m = mapped-length count in
       ext_get_or d xs (map {A = ℕ} {B = A} f (from 0 count)) (omega arith) (λ k h. each k (omega arith) ∙ sym (mapped_at count k d (omega arith)))
-
-  -- one entry more is stored
-  pub one_more : (k : ℕ) (xs : List A) (x d : A) → k < length xs → ((j : ℕ) → j < k → get_or xs j d ≡ f j) → x ≡ f k → (j : ℕ) → j < k + 1 → get_or (set xs k x) j d ≡ f j
-  one_more k xs x d h below e = below_more _ _ (λ j l. get_or-set_other xs k j x d (omega arith) ∙ below j l) (get_or-set_same xs k x d h ∙ e)
 
 -- ---- tables
 

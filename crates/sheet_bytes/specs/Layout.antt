@@ -1,24 +1,13 @@
 -- The bytes of a sheet, from document 01, "The sheet and the program `fit`": little-endian numbers and floats, and where each
 -- part lies. How many bytes an entry of the contents has is a parameter. Nothing is tested here: past the end a byte reads 0.
 -- Assumes nothing.
-use Rattle.std.specs.Prelude.{ℕ, ◌+◌, ◌*◌, List, map, from_bits, slice_index}
+use Rattle.std.specs.Prelude.{ℕ, ◌+◌, ◌*◌, List, map}
 use Rattle.std.specs.Prelude.{Float}
-use Rattle.std.specs.Float.{binary64}
 use Rattle.graph.specs.Sets.{from}
-
 -- ---- numbers and tables
 
--- the u32 at offset o: four bytes, the least first
-unfoldable pub u32_at : List ℕ → ℕ → ℕ
-u32_at s o = slice_index s o + 256 * slice_index s (o + 1) + 65536 * slice_index s (o + 2) + 16777216 * slice_index s (o + 3)
-
--- the u64 at offset o: two u32s, the lesser first
-abbrev pub u64_at : List ℕ → ℕ → ℕ
-u64_at s o = u32_at s o + 4294967296 * u32_at s (o + 4)
-
--- the float whose bits stand at offset o; the bits of every NaN are the one NaN
-abbrev pub f64_at : List ℕ → ℕ → Float
-f64_at s o = from_bits binary64 (u64_at s o)
+unfoldable pub use Rattle.bits.specs.Bytes.{u32_at}
+pub use Rattle.bits.specs.Bytes.{u64_at, f64_at}
 
 -- a table of u32s, the first at `start`, each `stride` bytes after the one before
 unfoldable pub u32s : List ℕ → (start stride count : ℕ) → List ℕ

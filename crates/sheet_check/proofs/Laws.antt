@@ -1,12 +1,12 @@
 -- The laws of the checks of a sheet: what each says where its test fails and where it holds, and what a list of them tells.
 -- Assumes nothing.
-use Rattle.std.specs.Prelude.{◌≡◌, ℕ, ◌<◌, ◌≤◌, Bool, true, false, cond, eqb, List, ◌∷◌, length}
+use Rattle.std.specs.Prelude.{◌≡◌, ℕ, ◌<◌, ◌≤◌, true, false, cond, eqb, List, ◌∷◌, length}
 use mathlib.Core.Path.{refl, sym, ap, ◌∙◌}
 use borrow.Author.Tests.{lt-ltb, le-ltb, ltb-false, eq-eqb, ne_eqb, eqb-true}
 use Rattle.refusal.specs.Refusal.{Told, done, refuses, verdict, first_of, bad_sheet, no_room}
-use Rattle.refusal.proofs.Laws.{first-refuses}
+use Rattle.refusal.proofs.Laws.{first-refuses, of_test}
 use Rattle.tables.specs.Sound.{Ordered}
-use Rattle.tables.proofs.CheckLaws.{stops, goes}
+use Rattle.tables.proofs.CheckLaws.{stops, goes, fails-passes}
 use Rattle.contents.proofs.Laws.{starts-ordered}
 use Rattle.sheet_check.specs.Checks.{room_check, Unpacked, Laid}
 use Rattle.sheet_check.specs.Sheet.{cut_check}
@@ -47,14 +47,6 @@ module _ (size end : ℕ) where
 
 -- ---- what a check that passes says
 
-fails-passes : (b : Bool) (v : Told) → refuses v ≡ true → refuses (cond b v done) ≡ false → b ≡ false
-fails-passes true v r h = sym r ∙ h
-fails-passes false v r h = refl
-
-holds-passes : (b : Bool) (v : Told) → refuses v ≡ true → refuses (cond b done v) ≡ false → b ≡ true
-holds-passes true v r h = refl
-holds-passes false v r h = sym h ∙ r
-
 pub room-passes : (room count : ℕ) → refuses (room_check room count) ≡ false → count ≤ room
 room-passes room count h = ltb-false room count (fails-passes _ _ refl h)
 
@@ -62,7 +54,7 @@ pub cut-passes : (need : ℕ) (s : List ℕ) → refuses (cut_check need s) ≡ 
 cut-passes need s h = ltb-false (length s) need (fails-passes _ _ refl h)
 
 pub end-passes : (size end : ℕ) → refuses (cond (eqb size end) done bad_sheet) ≡ false → size ≡ end
-end-passes size end h = eqb-true size end (holds-passes _ _ refl h)
+end-passes size end h = eqb-true size end (of_test _ _ refl h)
 
 -- ---- tables that have passed 2 and 3
 

@@ -4,16 +4,17 @@ use Rattle.std.specs.Prelude.{◌≡◌, ℕ, ◌+◌, ◌*◌, ◌≤◌, false
 use mathlib.Core.Path.{refl, sym, ap, subst, ◌∙◌}
 use native.Mathlib.Omega.{arith}
 use lib.Ieee.{Float}
-use Rattle.refusal.specs.Refusal.{Told, done, refuses, first_of, verdict_after, verdict}
-use Rattle.refusal.proofs.Laws.{first_passes, AllPass, all_pass, verdict-goes}
+use Rattle.refusal.specs.Refusal.{Told, done, refuses, verdict}
+use Rattle.refusal.proofs.Laws.{all_pass, pass-after, verdict-goes}
 use Rattle.tables.specs.Verdict.{areas, system_checks, system_verdict, from_diagonal}
 use Rattle.tables.specs.Sound.{Ordered}
 use Rattle.tables.proofs.CheckLaws.{blocks-go, dims-go, dims-pass, stored-go, rows-go, rows_pass, order-go, order-pass, values-go, perm-go, perm-pass, late-go, late-pass, tolerance-go, tolerance-pass}
+use Rattle.tables.proofs.PassLaws.{starts-done}
 use Rattle.scalars.specs.Scalars.{scalar_count}
 use Rattle.sheet_bytes.specs.Layout.{blocks_of, stored_of, tol_of, dims_of, late_of, perm_of, contents_at, bodies_at}
 use Rattle.sheet_bytes.proofs.Laws.{length-u32s, length-f64s}
 use Rattle.contents.specs.Contents.{starts_from}
-use Rattle.contents.proofs.Laws.{columns-pass, sorted_of, starts-ordered, starts-done, length-starts}
+use Rattle.contents.proofs.Laws.{columns-pass, sorted_of, starts-ordered, length-starts}
 use Rattle.sheet_check.specs.Checks.{room_scalars, room_values, table_checks, values_here, room_blocks, room_stored}
 use Rattle.sheet_check.specs.Sheet.{width, rows_of, columns_of, offsets_of, starts_of, value_count, scalars_of, values_of, sheet_checks, sheet_verdict}
 use Rattle.sheet_check.specs.Sound.{SheetSound}
@@ -28,11 +29,6 @@ all_done : (checks : List Told) → AllDone checks → verdict checks ≡ done
 unfolding AllDone
 all_done [] d = refl
 all_done (check ∷ checks) d = verdict-goes check checks d.0 ∙ all_done checks d.1
-
--- a list of checks of which none refuses, after a verdict that does not
-pass-after : (v : Told) (checks : List Told) → refuses v ≡ false → AllPass checks → refuses (verdict_after v checks) ≡ false
-pass-after v [] h p = h
-pass-after v (check ∷ checks) h p = pass-after (first_of v check) checks (sym (ap refuses (first_passes v check h)) ∙ p.0) p.1
 
 -- ---- tables that pass
 

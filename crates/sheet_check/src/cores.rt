@@ -1,14 +1,15 @@
 // The checks of a sheet's tables once they are unpacked, in the order of the program `fit`.
-// Kept: what the head of a sheet has shown, as a fact of each part of its check, which stand one beside the other.
+// Kept: what has been shown before a test is one named record each, `OfSheet` of the struct of the tables, `Laid` and `Stored` of the starts beside them.
 ghost use Rattle.std.specs.Prelude.{◌≡◌, ◌+◌, length};
 ghost use Rattle.sheet_check.specs.Checks.{Laid, Stored};
 ghost use Rattle.sheet_check.specs.Outcome.{told, told_error};
 ghost use Rattle.sheet_check.specs.Tables.{OfSheet, room_told, number_told, table_told};
 
 use columns::cores::{Least, first_fall, first_row, total_area};
-use contents::cores::{first_column, first_offset, make_starts, scalar_count};
+use contents::cores::{first_column, first_offset, make_starts};
 use refusal::Refusal;
 use scalar::is_tolerance;
+use scalars::cores::scalar_count;
 use tables::cores::{first_dim, first_late, first_perm};
 
 // The program's room: blocks, stored blocks of A, scalars, and numbers of A's bodies.

@@ -3,8 +3,8 @@
 // answer are, then both; 4,294,967,295 ends the list.
 #![tactic(auto)]
 
+use bits::cores::u32_at;
 use fit_answer::answer;
-use sheet_bytes::cores::u32_at;
 use word_list::cases::{BadList, Case, replay};
 use word_list::tally::{Count, Tally};
 
@@ -54,22 +54,21 @@ fn next() -> Result<Option<Case>, BadList> {
 fn called(n: usize, m: usize) -> Result<Case, BadList> {
     let mut sheet = [0u8; 65536];
     let mut told = [0u8; 16384];
-    if !fill(&mut sheet, n) || !fill(&mut told, m) {
-        return Err(BadList {});
-    }
-    let (Some(sheet), Some(told)) = (sheet.get(..n), told.get(..m)) else {
-        return Err(BadList {});
-    };
+    let sheet = fill(&mut sheet, n).ok_or(BadList {})?;
+    let told = fill(&mut told, m).ok_or(BadList {})?;
     let kind = if begins(told) { ACCEPTED } else { REFUSED };
     Ok(Case::one(kind, answered(sheet, told)))
 }
 
-// The next n bytes of the list into the first places of a room; false where the list ends before, or the room does.
-fn fill(room: &mut [u8], n: usize) -> bool {
+// The next n bytes of the list, in the first places of a room; none where the list ends before, or the room does.
+fn fill(room: &mut [u8], n: usize) -> Option<&[u8]> {
     if n > room.len() {
-        return false;
+        return None;
     }
-    io::read_full(STDIN, &mut room[..n]) == n
+    if io::read_full(STDIN, &mut room[..n]) < n {
+        return None;
+    }
+    room.get(..n)
 }
 
 // Whether a text begins as the lines of an accepted night do.

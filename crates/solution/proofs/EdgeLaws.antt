@@ -41,10 +41,6 @@ module _ (perm : List ℕ) (p : Permutes (length perm) perm) where
   inverse : Inverse (length perm) perm (inverse_of (length perm) perm)
   inverse = inverse-holds (length perm) perm p
 
-  pub unpermuted-length : (y : List Float) → length (unpermuted perm y) ≡ length perm
-  unfolding unpermuted
-  unpermuted-length y = length-map {A = ℕ} {B = Float} (inverse_of (length perm) perm) (λ p. get_or y p nan) ∙ inverse.count
-
   -- the first k numbers of y are written
   module _ {A : Type 0} (z : A) where
     pub scattered-turn : (x : List A) (f : ℕ → A) (k : ℕ) → length x ≡ length perm → k < length perm → ((i : ℕ) → i < k → get_or x (at perm i) z ≡ f i)

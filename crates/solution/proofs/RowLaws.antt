@@ -1,5 +1,5 @@
--- Rows one after the other: `through-none` where a loop over the rows of a column begins, `through-more` one row more; `steps-length` and
--- `lost-length`, `lost-transpose-length`: a list is as long after a loop, and a block after a row. Assumes nothing.
+-- Rows one after the other: `through-none` where a loop over the rows of a column begins, `through-more` one row more;
+-- `lost-length`, `lost-transpose-length`: a block is as long after a row. Assumes nothing.
 use Prim.Native.Nat.{ℕ, zero, suc, ◌+◌, ◌-◌, ◌≤◌, ◌<◌}
 use mathlib.Core.List.{List, [], ◌∷◌, ◌++◌}
 use mathlib.Core.Path.{◌≡◌, refl, ap, ◌∙◌}
@@ -12,6 +12,7 @@ use Rattle.kernel_vector.specs.Vector.{sub_mat_plus_vec}
 use Rattle.kernel_vector_transpose.specs.VectorTranspose.{sub_mat_transpose_plus_vec}
 use Rattle.tables.specs.Verdict.{at}
 use Rattle.block_product.specs.Working.{slot}
+use Rattle.block_product.proofs.WorkingLaws.{steps-length}
 use Rattle.solution.specs.Solution.{through}
 
 -- one entry more
@@ -36,11 +37,6 @@ module _ {A : Type 0} (f : ℕ → A → A) where
   through-more l s u a lo hi = ap (λ (r : List ℕ). through f r a) (slot-more l s u lo hi) ∙ through-snoc (slot s (u - s) l) (at l u) a
 
 -- ---- lengths
-
-pub steps-length : (f : ℕ → List Float → List Float) → ((k : ℕ) (a : List Float) → length (f k a) ≡ length a) → (n : ℕ) (a : List Float) → length (steps f n a) ≡ length a
-unfolding steps
-steps-length f h zero a = refl
-steps-length f h (suc n) a = h n (steps f n a) ∙ steps-length f h n a
 
 pub lost-length : (m n : ℕ) (y a b : List Float) → length (sub_mat_plus_vec m n y a b) ≡ length y
 unfolding sub_mat_plus_vec

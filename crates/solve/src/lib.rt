@@ -8,10 +8,10 @@ ghost use Rattle.solve_checks.specs.Outcome.{told_solve_error};
 ghost use Rattle.solve_match.specs.Outcome.{told_match_error};
 ghost use Rattle.solve.specs.Solve.{told, told_error, verdict_of, called, Solves, SameLent};
 
-use factor_tables::cores::scalars;
 pub use lists::{Factor, Night};
 use needs::{ShortBuffer, first_short};
 use refusal::Refusal;
+use scalars::cores::scalar_count;
 use solve_checks::{SolveTablesError, check_solve};
 use solve_core::cores::solve_lent;
 use solve_match::MatchError;
@@ -86,6 +86,7 @@ impl Refusal for SolveError {
 }
 
 // Tables that are refused refuse the solve in the same words.
+// Kept: case by case: each call's error has just that call's cases, as document 01 lists them.
 impl From<SolveTablesError> for SolveError {
     ghost from_gives = { λ e r. told_error r ≡ told_solve_error e };
 
@@ -121,6 +122,7 @@ impl From<ShortBuffer> for SolveError {
 }
 
 // And so does a factor of another system.
+// Kept: case by case: each call's error has just that call's cases, as document 01 lists them.
 impl From<MatchError> for SolveError {
     ghost from_gives = { λ e r. told_error r ≡ told_match_error e };
 
@@ -180,7 +182,7 @@ fn check_call(night: &Night, factor: &Factor, lent: &Lent) -> Result<(), SolveEr
 {
     check_solve(night, factor)?;
     let n = night.dims.len();
-    let all = scalars(night.dims);
+    let all = scalar_count(night.dims);
     let x = lent.x.len();
     first_short(
         &[

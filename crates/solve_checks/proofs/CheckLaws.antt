@@ -7,11 +7,11 @@ use mathlib.Core.Path.{refl}
 use borrow.Author.Tests.{ltb-true, eqb-true}
 use Rattle.refusal.specs.Refusal.{done, bad_parent, refuses}
 use Rattle.tables.specs.Search.{fault}
-use Rattle.tables.specs.Verdict.{at, start_ok, row_fits, order_fits, past_diagonal}
+use Rattle.tables.specs.Verdict.{at, start_ok, row_fits, order_fits, past_diagonal, parent_fits}
 use Rattle.tables.proofs.Bools.{and_left, and_right}
 use Rattle.tables.proofs.FaultLaws.{fault-clear}
 use Rattle.tables.proofs.CheckLaws.{fault-stop, fault-go, fault-pass}
-use Rattle.solve_checks.specs.Verdict.{bad_factor, parent_fits, l_starts_check, l_rows_check, tree_check, l_order_check}
+use Rattle.solve_checks.specs.Verdict.{bad_factor, l_starts_check, l_rows_check, tree_check, l_order_check}
 
 module _ (l_starts : List ℕ) (n m : ℕ) where
   pub l-starts-stop : (k : ℕ) → Some k ≡ fault (start_ok l_starts n m) 0 (n + 2) → l_starts_check l_starts n m ≡ bad_factor 3 k

@@ -7,9 +7,9 @@ use lib.Ieee.{Float}
 use Rattle.graph.specs.Order.{moved}
 use Rattle.refusal.specs.Refusal.{Told, done, bad_parent}
 use Rattle.tables.specs.Search.{first_from, first, sum_from, sum}
-use Rattle.tables.specs.Verdict.{dim_ok, rises_at, start_ok, column_of, row_ok, order_ok, block_area, perm_ok, late_ok, blocks_check, dims_check, starts_check, stored_check, rows_check, order_check, values_check, perm_check, late_check}
+use Rattle.tables.specs.Verdict.{dim_ok, rises_at, start_ok, column_of, row_ok, order_ok, block_area, perm_ok, late_ok, blocks_check, dims_check, starts_check, stored_check, rows_check, order_check, values_check, perm_check, late_check, parent_fits}
 use Rattle.order.specs.Order.{sizes_of}
-use Rattle.solve_checks.specs.Verdict.{bad_factor, parent_fits, l_starts_check, l_rows_check, tree_check, l_order_check, solve_verdict}
+use Rattle.solve_checks.specs.Verdict.{bad_factor, l_starts_check, l_rows_check, tree_check, l_order_check, solve_verdict}
 
 module _ (number : Float) where
   -- the sheet's system, and a factor

@@ -6,11 +6,11 @@ use Rattle.graph.specs.Order.{moved}
 use Rattle.refusal.specs.Refusal.{Told, done, verdict, too_many_blocks, bad_dimension, bad_starts, too_many_stored, out_of_range, bad_parent, not_increasing, bad_value_count, bad_permutation, bad_late_flags}
 use Rattle.tables.specs.Search.{fault}
 use Rattle.tables.specs.Sound.{Columns}
-use Rattle.tables.specs.Verdict.{dim_ok, start_ok, row_fits, order_fits, perm_ok, late_ok, areas, from_diagonal, past_diagonal}
+use Rattle.tables.specs.Verdict.{dim_ok, start_ok, row_fits, order_fits, perm_ok, late_ok, areas, from_diagonal, past_diagonal, parent_fits}
 use Rattle.tables.proofs.CheckLaws.{stops, goes, blocks-stop, blocks-go, dims-stop, dims-go, starts-stop, starts-go, stored-stop, stored-go, rows-stop, rows-go, order-stop, order-go, values-stop, values-go, perm-stop, perm-go, late-stop, late-go}
 use Rattle.tables.proofs.TableLaws.{sizes-of, ordered_of, columns_of, permutes-of, flags_of}
 use Rattle.order.specs.Order.{sizes_of}
-use Rattle.solve_checks.specs.Verdict.{bad_factor, parent_fits, solve_checks, solve_verdict}
+use Rattle.solve_checks.specs.Verdict.{bad_factor, solve_checks, solve_verdict}
 use Rattle.solve_checks.proofs.CheckLaws.{l-starts-stop, l-starts-go, l-rows-stop, l-rows-go, tree-stop, tree-go, l-order-stop, l-order-go}
 
 module _ (dims starts rows perm late parents l_starts l_rows : List ℕ) (l_values : List Float) where

@@ -2,11 +2,11 @@
 -- flags as for a plan, and the factor's tables. Within a number A's table is tested before the factor's, and within 5 the parents last. A
 -- refusal of the factor's starts or rows carries 2 behind the place, which tells it from A's and from a parent's, which carries 1. Assumes
 -- nothing.
-use Rattle.std.specs.Prelude.{ℕ, ◌+◌, Bool, ◌&&◌, ◌||◌, List, [], ◌∷◌, length, ◌==◌, nat_lt}
+use Rattle.std.specs.Prelude.{ℕ, ◌+◌, List, [], ◌∷◌, length}
 use Rattle.std.specs.Prelude.{Float}
 use Rattle.graph.specs.Order.{moved}
 use Rattle.refusal.specs.Refusal.{Told, tells, verdict, bad_parent}
-use Rattle.tables.specs.Verdict.{at, start_ok, row_fits, order_fits, fault_in, blocks_check, dims_check, starts_check, stored_check, rows_check, order_check, values_check, perm_check, late_check, from_diagonal, past_diagonal}
+use Rattle.tables.specs.Verdict.{start_ok, parent_fits, row_fits, order_fits, fault_in, blocks_check, dims_check, starts_check, stored_check, rows_check, order_check, values_check, perm_check, late_check, from_diagonal, past_diagonal}
 use Rattle.order.specs.Order.{sizes_of}
 
 -- 3, 5, 6 of a factor's table: the place, and 2. A parent out of its range is told by `bad_parent`: the block, and 1
@@ -20,10 +20,6 @@ l_starts_check l_starts n m = fault_in (start_ok l_starts n m) (n + 2) (bad_fact
 -- 5: each row of the factor past its column, to the last block
 unfoldable pub l_rows_check : (l_starts l_rows : List ℕ) → (n : ℕ) → Told
 l_rows_check l_starts l_rows n = fault_in (row_fits past_diagonal l_starts l_rows n) (length l_rows) (bad_factor 5)
-
--- 5: a parent is none, which is 4,294,967,295, or a greater one of n blocks, whatever the count of the parents
-unfoldable pub parent_fits : (n : ℕ) → (parents : List ℕ) → ℕ → Bool
-parent_fits n parents k = at parents k == 4294967295 || nat_lt k (at parents k) && nat_lt (at parents k) n
 
 -- 5: each parent in the table is none or a greater one of n blocks
 unfoldable pub tree_check : (n : ℕ) → (parents : List ℕ) → Told

@@ -4,20 +4,16 @@
 // the order of elimination.
 #![tactic(auto)]
 
-pub mod cores;
-
-// Kept: what is asked of a single number, a place or a count, as a fact of the one call that has it.
 ghost use Rattle.std.specs.Prelude.{◌≡◌};
 ghost use Rattle.solve_checks.specs.Verdict.{solve_verdict};
 ghost use Rattle.solve_checks.specs.Outcome.{told_solve, told_solve_error};
 
-use crate::cores::first_parent_of;
 use checks::{MAX_BLOCKS, MAX_STORED};
 use columns::cores::{Least, first_fall, first_row};
 use factor_order::cores::area_under;
 use lists::{Factor, Night};
 use refusal::Refusal;
-use tables::cores::{first_dim, first_late, first_perm, first_start};
+use tables::cores::{first_dim, first_late, first_parent, first_perm, first_start};
 
 // The refusals of a check of the tables of a solve.
 #[derive(Clone, Copy, Debug, PartialEq, Eq)]
@@ -74,6 +70,7 @@ impl Refusal for SolveTablesError {
 
 // A's tables, the permutation, the late flags, and the tables of a factor: the parents of its blocks, whatever their count, and its
 // starts and rows, whose column j stores rows past j.
+// Kept: no other check of tables can be called in it: within a number A's table comes before the factor's.
 #[tactic(auto, using(crate::proofs::SolveLaws::solve_laws))]
 pub fn check_solve(night: &Night, factor: &Factor) -> Result<(), SolveTablesError>
     ensures { told_solve result ≡ solve_verdict night.now.dims.now night.now.starts.now night.now.rows.now night.now.perm.now night.now.late.now factor.now.parents.now factor.now.l_starts.now factor.now.l_rows.now factor.now.l_values.now }
@@ -101,7 +98,7 @@ pub fn check_solve(night: &Night, factor: &Factor) -> Result<(), SolveTablesErro
     if let Some(place) = first_row(factor.l_starts, factor.l_rows, n, Least::PastDiagonal) {
         return Err(SolveTablesError::LRow { place });
     }
-    if let Some(block) = first_parent_of(factor.parents, n) {
+    if let Some(block) = first_parent(factor.parents, n) {
         return Err(SolveTablesError::Parent { block });
     }
     if let Some(place) = first_fall(night.starts, night.rows, n) {
@@ -116,13 +113,7 @@ pub fn check_solve(night: &Night, factor: &Factor) -> Result<(), SolveTablesErro
     if let Some(place) = first_late(night.late, n) {
         return Err(SolveTablesError::Late { place });
     }
-    let need = area_under(
-        night.dims,
-        night.perm,
-        night.late,
-        factor.l_starts,
-        factor.l_rows,
-    );
+    let need = area_under(night, factor);
     if factor.l_values.len() != need {
         return Err(SolveTablesError::LValues);
     }

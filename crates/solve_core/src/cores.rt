@@ -18,6 +18,7 @@ use lists::Factor;
 use right_side::cores::{permute, unpermute};
 use sweep::Rows;
 
+// Kept: the five buffers one by one: each goes to steps of its own here, and `solve::Lent`, which holds them above, would be taken apart at once.
 // x, the right side in old order, becomes the solution. The factor's order, tables and numbers are as `factorize` leaves them; its
 // parents are not read. The rest is scratch, and ends as zeros:
 //     y        the vector by new number: a number for each scalar
@@ -51,9 +52,9 @@ pub fn solve_core(
     substitute(&r, f.diag, f.d, y);
     unpermute(&perm[..], &y[..], x);
     scalar::clear(y);
-    buckets::cores::fill(perm, 0);
-    buckets::cores::fill(sizes, 0);
-    buckets::cores::fill(starts, 0);
+    perm.fill(0);
+    sizes.fill(0);
+    starts.fill(0);
 }
 
 // The same where scratch may be longer than its need: the work is done in the first places of each, and those beyond are as they were.

@@ -3,16 +3,12 @@ use mathlib.Core.Bool.{false}
 use mathlib.Core.List.{List, [], ◌∷◌}
 use mathlib.Core.Path.{◌≡◌, refl, sym, ap, ◌∙◌}
 use Rattle.refusal.specs.Refusal.{Told, done, refuses, first_of, verdict_after, verdict}
-use Rattle.refusal.proofs.Laws.{AllPass, first_passes, both-pass, need-met}
+use Rattle.refusal.proofs.Laws.{AllPass, first_passes, both-pass, need-met, pass-after}
 use Rattle.needs.specs.Needs.{Lent, need_checks, AllMet}
 
 -- where both pass, the first of two does
 pub first-pass : (v next : Told) → refuses v ≡ false → refuses next ≡ false → refuses (first_of v next) ≡ false
 first-pass v next a b = ap refuses (sym (first_passes v next a)) ∙ b
-
-pass-after : (v : Told) (checks : List Told) → refuses v ≡ false → AllPass checks → refuses (verdict_after v checks) ≡ false
-pass-after v [] e p = e
-pass-after v (check ∷ checks) e p = pass-after (first_of v check) checks (first-pass v check e p.0) p.1
 
 pub pass_all : (checks : List Told) → AllPass checks → refuses (verdict checks) ≡ false
 pass_all checks p = pass-after done checks refl p

@@ -9,11 +9,11 @@ use borrow.Author.Tests.{lt-ltb, eq-eqb}
 use lib.Dec.{T, ltb, eqb}
 use lib.ListN.{length}
 use Rattle.refusal.specs.Refusal.{done}
-use Rattle.tables.specs.Verdict.{at}
+use Rattle.tables.specs.Verdict.{at, parent_fits}
 use Rattle.tables.proofs.Bools.{or-true}
 use Rattle.elimination_tree.specs.Tree.{root, parents_of}
 use Rattle.elimination_tree.proofs.Links.{parents-length, parents-rule}
-use Rattle.solve_checks.specs.Verdict.{parent_fits, tree_check}
+use Rattle.solve_checks.specs.Verdict.{tree_check}
 use Rattle.solve_checks.proofs.CheckLaws.{tree-go}
 use Rattle.solve_fresh.proofs.ColumnLaws.{ends}
 

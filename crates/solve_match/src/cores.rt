@@ -1,7 +1,6 @@
 // 12 of document 01 for a solve, where the tables have passed 1 to 9: a factor whose tables are not those of the system that it is called
 // with, or a list of another length. No scratch is lent, and nothing is written.
-// Kept: what the checks have found of A's dimensions, of an order or of the factor's columns, as facts. A struct of lists that have passed would be built after each
-// check and opened again here, where one list of it is read.
+// Kept: `PlanSound` and `Columns` are one named record each, of the night and of the factor.
 ghost use Rattle.std.specs.Prelude.{◌≡◌, ◌≤◌, length};
 ghost use Rattle.graph.specs.Order.{Permutes};
 ghost use Rattle.refusal.specs.Refusal.{verdict};
@@ -13,9 +12,10 @@ ghost use Rattle.solve_match.specs.Outcome.{told_matched};
 use crate::MatchError;
 use factor_match::cores::first_wrong;
 use factor_order::cores::{offsets_are, order_is};
-use factor_tables::cores::{scalars, unit_numbers};
+use factor_tables::cores::unit_numbers;
 use lists::{Factor, Night};
 use match_rows::cores::Links;
+use scalars::cores::scalar_count;
 
 // The first of them, in the order of the call. The factor's numbers and the right side are tested by their counts alone.
 //     x   how many numbers the right side has
@@ -24,7 +24,7 @@ pub fn first_mismatch(night: &Night, factor: &Factor, x: usize) -> Result<(), Ma
     requires { PlanSound night.now.dims.now night.now.starts.now night.now.rows.now night.now.perm.now night.now.late.now × Columns past_diagonal (length night.now.dims.now) factor.now.l_starts.now factor.now.l_rows.now }
     ensures { told_matched result ≡ match_verdict night.now.dims.now night.now.starts.now night.now.rows.now night.now.perm.now night.now.late.now factor.now.order.now factor.now.parents.now factor.now.l_starts.now factor.now.l_rows.now factor.now.l_offsets.now (length factor.now.diag.now) (length factor.now.d.now) x }
 {
-    if !order_is(night.perm, night.late, factor.order) {
+    if !order_is(night, factor.order) {
         return Err(MatchError::Mismatch { place: 5 });
     }
     if factor.parents.len() != night.dims.len() {
@@ -45,19 +45,13 @@ pub fn first_shape(dims: &[u32], factor: &Factor, x: usize) -> Result<(), MatchE
     requires { (length dims.now ≤ 4096) × Sizes dims.now × Permutes (length dims.now) factor.now.order.now × Columns past_diagonal (length dims.now) factor.now.l_starts.now factor.now.l_rows.now }
     ensures { told_matched result ≡ verdict (shape_checks dims.now factor.now.order.now factor.now.l_starts.now factor.now.l_rows.now factor.now.l_offsets.now (length factor.now.diag.now) (length factor.now.d.now) x) }
 {
-    if !offsets_are(
-        dims,
-        factor.order,
-        factor.l_starts,
-        factor.l_rows,
-        factor.l_offsets,
-    ) {
+    if !offsets_are(dims, factor) {
         return Err(MatchError::Mismatch { place: 9 });
     }
     if factor.diag.len() != unit_numbers(dims) {
         return Err(MatchError::Mismatch { place: 11 });
     }
-    let all = scalars(dims);
+    let all = scalar_count(dims);
     if factor.d.len() != all {
         return Err(MatchError::Mismatch { place: 12 });
     }

@@ -32,6 +32,7 @@ impl Refusal for MatchError {
 }
 
 // A wrong column refuses the factor.
+// Kept: `ColumnError` has the three cases that a column can be wrong in; the call's error has one more, so each goes into the next case by case.
 impl From<ColumnError> for MatchError {
     ghost from_gives = { λ e r. told_match_error r ≡ told_column e };
 

@@ -1,7 +1,8 @@
 -- A sweep on a flat list: what it needs, and what it leaves. Assumes nothing.
-use Rattle.std.specs.Prelude.{ℕ, ◌+◌, ◌-◌, ◌*◌, List, length}
+use Rattle.std.specs.Prelude.{◌≡◌, ℕ, ◌+◌, ◌-◌, ◌*◌, ◌≤◌, List, length}
 use Rattle.std.specs.Prelude.{Float}
 use Rattle.scalar.specs.Loop.{steps}
+use Rattle.scalar.specs.Block.{within}
 use Rattle.tables.specs.Verdict.{at}
 use Rattle.block_product.specs.Working.{slot}
 use Rattle.layout.specs.Layout.{Tables, tables, side, start_of, stop_of, RowsLaid, work_need}
@@ -24,6 +25,12 @@ pub record Laid (r : Rows) (m : ℕ) : Type 0 where
 pub record Pass : Type 0 where
   pub column : (n t : ℕ) → ℕ
   pub row : (h w : ℕ) (a : List Float) (s t : ℕ) (y : List Float) → List Float
+
+-- a row of p makes x' and y' of the column's numbers x and its own y, wherever both stand in a list
+abbrev pub Touches : Pass → (h w : ℕ) (a x y x' y' : List Float) → Type 0
+Touches p h w a x y x' y' =
+    (s t : ℕ) (z : List Float) → s + w ≤ t → t + h ≤ length z → slot s w z ≡ x → slot t h z ≡ y
+    → p.row h w a s t z ≡ within t h (λ _. y') (within s w (λ _. x') z)
 
 module _ (p : Pass) (t : Tables) (starts : List ℕ) (l_values : List Float) where
   -- after the row at place u of column j

@@ -4,7 +4,7 @@ ghost use Rattle.std.specs.Prelude.{◌≡◌, ◌+◌, ◌*◌, ◌<◌, ◌≤
 ghost use Rattle.tables.specs.Verdict.{at};
 ghost use Rattle.block_product.specs.Working.{slot};
 ghost use Rattle.solution.specs.Flat.{RowFits};
-ghost use Rattle.sweep.specs.Sweep.{Pass, Laid, rows_of, column_done, swept};
+ghost use Rattle.sweep.specs.Sweep.{Pass, Touches, Laid, rows_of, column_done, swept};
 
 use crate::Rows;
 
@@ -17,11 +17,11 @@ pub trait Direction {
         requires { t < n }
         ensures { (result ≡ pass.column n t) × (result < n) };
 
-    // What the row with the body a, of h rows and w columns, does with the vector y: its column's numbers are the w from s on, its own the h
-    // from t on.
-    fn row(h: usize, w: usize, a: &[f64], y: &mut [f64], s: usize, t: usize)
-        requires { (length a.now ≡ h * w) × (s + w ≤ t) × (t + h ≤ length y.old) }
-        ensures { y.new ≡ pass.row h w a.now s t y.old };
+    // What the row with the body a, of h rows and w columns, does with the two parts of a vector that it touches: x are its column's numbers, y
+    // its own, which stand behind them.
+    fn row(h: usize, w: usize, a: &[f64], x: &mut [f64], y: &mut [f64])
+        requires { (length x.old ≡ w) × (length y.old ≡ h) × (length a.now ≡ h * w) }
+        ensures { Touches pass h w a.now x.old y.old x.new y.new };
 }
 
 // All columns, in the order of the direction.
@@ -59,5 +59,13 @@ fn sweep_row<D: Direction>(r: &Rows, s: usize, w: usize, u: usize, y: &mut [f64]
     let t = r.starts[i] as usize;
     let o = r.l_offsets[u] as usize;
     let o_end = o + h * w;
-    D::row(h, w, &r.l_values[o..o_end], y, s, t);
+    let s_end = s + w;
+    let (front, back) = y.split_at_mut(t);
+    D::row(
+        h,
+        w,
+        &r.l_values[o..o_end],
+        &mut front[s..s_end],
+        &mut back[..h],
+    );
 }

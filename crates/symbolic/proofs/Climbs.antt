@@ -129,9 +129,9 @@ pub climb-begins : (parent : List ℕ) (m : ℕ) (stamp found : List ℕ) (i : �
 climb-begins parent m stamp found i k h = record { kept = k; block = h; steps = length parent; enough = omega arith; same = refl }
 
 -- the parent of a block that is no root is a greater block
-pub goes-up : (parent : List ℕ) (i : ℕ) → Parents parent → i < length parent → (get_or parent i 0 ≡ none → ⊥) → (i < get_or parent i 0) × (get_or parent i 0 < length parent)
+pub goes_up : (parent : List ℕ) (i : ℕ) → Parents parent → i < length parent → (get_or parent i 0 ≡ none → ⊥) → (i < get_or parent i 0) × (get_or parent i 0 < length parent)
 unfolding Parents
-goes-up parent i tree h e = ⊎_elim (λ z. absurd (e z)) (λ z. z) (tree i h)
+goes_up parent i tree h e = ⊎_elim (λ z. absurd (e z)) (λ z. z) (tree i h)
 
 module _ (parent : List ℕ) (m i₀ : ℕ) (stamp₀ found₀ : List ℕ) (i : ℕ) (stamp found : List ℕ) (c : Climbing parent m i₀ stamp₀ found₀ i stamp found) where
   -- a step is left
@@ -147,7 +147,7 @@ module _ (parent : List ℕ) (m i₀ : ℕ) (stamp₀ found₀ : List ℕ) (i : 
 
     pub climb-turns : Parents parent → (get_or parent i 0 ≡ none → ⊥) → Climbing parent m i₀ stamp₀ found₀ (get_or parent i 0) (set stamp i m) (i ∷ found)
     climb-turns tree e =
-        let up = goes-up parent i tree c.block e in
+        let up = goes_up parent i tree c.block e in
         record {
           kept = mark-one (length parent) m stamp found i c.kept c.block new;
           block = up.1;
@@ -242,7 +242,7 @@ pub count-climb-turns : (parent sizes : List ℕ) (m : ℕ) (stamp₀ count₀ :
     → get_or sizes i 0 ≤ 16 → Parents parent → (get_or stamp i 0 ≡ m → ⊥) → (get_or parent i 0 ≡ none → ⊥)
     → CountClimb parent sizes m stamp₀ count₀ total₀ i₀ (set stamp i m) (bump i count) (total + get_or sizes i 0) (get_or parent i 0)
 count-climb-turns parent sizes m stamp₀ count₀ total₀ i₀ stamp count total i c le tree new e = record {
-  block = (goes-up parent i tree c.block e).1;
+  block = (goes_up parent i tree c.block e).1;
   stamps = length-set stamp i m ∙ c.stamps;
   places = length-set count i (get_or count i 0 + 1) ∙ c.places;
   held = λ first found₀ k g. let h = c.held first found₀ k g in
@@ -282,7 +282,7 @@ pub store-climb-turns : (parent : List ℕ) (x m : ℕ) (stamp₀ next₀ table�
     → Parents parent → (get_or stamp i 0 ≡ m → ⊥) → (get_or parent i 0 ≡ none → ⊥)
     → StoreClimb parent x m stamp₀ next₀ table₀ i₀ (set stamp i m) (bump i next) (set table (get_or next i 0) x) (get_or parent i 0)
 store-climb-turns parent x m stamp₀ next₀ table₀ i₀ stamp next table i c tree new e = record {
-  block = (goes-up parent i tree c.block e).1;
+  block = (goes_up parent i tree c.block e).1;
   stamps = length-set stamp i m ∙ c.stamps;
   places = length-set next i (get_or next i 0 + 1) ∙ c.places;
   size = length-set table (get_or next i 0) x ∙ c.size;

@@ -1,8 +1,8 @@
 // The plan of L: how many rows each column has, where each begins, and the rows themselves, from an upper pattern and Liu's table of parents.
 // For j ascending the columns that reach j are walked and j goes to the end of each: every column comes out ascending, with no sorting.
 // Both passes do their work on a column where the climb comes upon it, so neither makes a list of what it found.
-// Kept: what is known of the parents, and how long is what is lent, as facts: a climb takes the parents' table alone, or one that leads onward in its place, and the lists
-// are lent apart.
+// Kept: what is known of the parents, and how long is what is lent, as facts: a climb takes the parents' table alone, or one that leads onward in its place (`fill_rows`), so it can take no
+// `UpperTree`.
 ghost use Rattle.std.specs.Prelude.{◌≡◌, ℕ, ◌+◌, ◌*◌, ◌<◌, ◌≤◌, T, ◌++◌, reverse, length, drop, slice_index};
 ghost use Rattle.graph.specs.Sets.{elem, between, gather, sum};
 ghost use Rattle.graph.specs.Count.{products_of};
@@ -13,9 +13,10 @@ ghost use Rattle.buckets.specs.Buckets.{bumps, stores, Roomy, lengths, Laid};
 ghost use Rattle.symbolic.specs.Columns.{Tree, Below, Sized, found, columns_of, numbers_of};
 
 use crate::UpperTree;
-use tables::cores::{NONE, wide};
+use tables::cores::NONE;
 
 // The columns that reach column j, at the end of `out` from the returned place on. The mark is j + 1.
+// Kept: the three lists apart: its caller has them in L's tables (`lists::Tables`), and would make an `UpperTree` of them for each column.
 pub fn walk(
     starts: &[u32],
     rows: &[u32],
@@ -37,6 +38,8 @@ pub fn walk(
 }
 
 // The scan of `reach::cores::scan`, but nothing is listed: each block is counted as it is found, and the sum of their dimensions is returned.
+// Kept: the climb is that of `reach::cores::scan`. What is done with a block needs the room that the blocks found before it left (`Roomy`): a closure for it would ask that of
+// lists which it is handed and hands back at each step, and that contract is longer than the loop.
 fn count_climbs(
     parent: &[u32],
     rows: &[u32],
@@ -57,13 +60,14 @@ fn count_climbs(
     for &i in rows {
         if i < j {
             let mut at = i as usize;
-            'climb: while stamp[at] != mark {
+            // Kept: it climbs a tree and counts nothing.
+            while stamp[at] != mark {
                 count[at] += 1;
                 total += sizes[at] as usize;
                 stamp[at] = mark;
                 let up = parent[at];
                 if up == NONE {
-                    break 'climb;
+                    break;
                 }
                 at = up as usize;
             }
@@ -82,8 +86,8 @@ pub fn counts(t: &UpperTree, sizes: &[u32], stamp: &mut [u32], count: &mut [u32]
     ensures value { result ≡ numbers_of (linked_up t.now.starts.now t.now.rows.now) (length t.now.parent.now) sizes.now }
     ensures count_after { count.new ≡ lengths (columns_of t.now.starts.now t.now.rows.now (length t.now.parent.now)) }
 {
-    buckets::cores::fill(stamp, 0);
-    buckets::cores::fill(count, 0);
+    stamp.fill(0);
+    count.fill(0);
     let n = t.parent.len();
     let mut numbers: usize = 0;
     for j in 0..n {
@@ -106,6 +110,8 @@ pub fn counts(t: &UpperTree, sizes: &[u32], stamp: &mut [u32], count: &mut [u32]
 }
 
 // The scan of `reach::cores::scan`, but nothing is listed: j goes to the end of the bucket of each block as it is found.
+// Kept: the climb is that of `reach::cores::scan`. What is done with a block needs the room that the blocks found before it left (`Roomy`): a closure for it would ask that of
+// lists which it is handed and hands back at each step, and that contract is longer than the loop.
 pub fn store_climbs(
     parent: &[u32],
     rows: &[u32],
@@ -125,14 +131,15 @@ pub fn store_climbs(
     for &i in rows {
         if i < j {
             let mut at = i as usize;
-            'climb: while stamp[at] != mark {
+            // Kept: it climbs a tree and counts nothing.
+            while stamp[at] != mark {
                 let free = next[at];
                 table[free as usize] = j;
                 next[at] = free + 1;
                 stamp[at] = mark;
                 let up = parent[at];
                 if up == NONE {
-                    break 'climb;
+                    break;
                 }
                 at = up as usize;
             }
@@ -141,6 +148,8 @@ pub fn store_climbs(
 }
 
 // The filling pass: the rows of L, column after column, into exactly the places that `l_starts` gives. `stamp` and `next` are scratch.
+// Kept: the plan calls `fill_rows::cores::fill` in its place, which copies the columns that repeat others and costs less; this is the pass by the definition alone, with the same
+// promise, which the docs name.
 pub fn fill(
     t: &UpperTree,
     l_starts: &[u32],
@@ -153,7 +162,7 @@ pub fn fill(
     requires laid { Laid (columns_of t.now.starts.now t.now.rows.now (length t.now.parent.now)) l_starts.now (length l_rows.old) }
     ensures { l_rows.new ≡ gather (L.rows (linked_up t.now.starts.now t.now.rows.now) (length t.now.parent.now)) (between 0 (length t.now.parent.now)) }
 {
-    buckets::cores::fill(stamp, 0);
+    stamp.fill(0);
     buckets::cores::copy(l_starts, next);
     let n = t.parent.len();
     for j in 0..n {
@@ -182,24 +191,17 @@ pub fn products_of(c: u32) -> u64
     c * (c + 1) / 2
 }
 
-// How many blocks L has, and how many block products make it.
-#[derive(Clone, Copy)]
-pub struct Totals {
-    pub stored: usize,
-    pub products: u64,
-}
-
-// The totals, from how many rows each column has.
-pub fn add_up(count: &[u32]) -> Totals
+// How many blocks L has, and how many block products make it, from how many rows each column has.
+pub fn add_up(count: &[u32]) -> (usize, u64)
     requires { (length count.now ≤ 4096) × ((k : ℕ) → k < length count.now → slice_index count.now k ≤ 65536) }
-    ensures stored_value { result.stored ≡ sum (between 0 (length count.now)) (λ k. slice_index count.now k) }
-    ensures products_value { result.products ≡ sum (between 0 (length count.now)) (λ k. products_of (slice_index count.now k)) }
+    ensures stored_value { result.0 ≡ sum (between 0 (length count.now)) (λ k. slice_index count.now k) }
+    ensures products_value { result.1 ≡ sum (between 0 (length count.now)) (λ k. products_of (slice_index count.now k)) }
 {
     let mut stored: usize = 0;
     let mut products: u64 = 0;
     for &c in count {
-        stored += wide(c);
+        stored += c as usize;
         products += products_of(c);
     }
-    Totals { stored, products }
+    (stored, products)
 }

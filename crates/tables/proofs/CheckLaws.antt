@@ -7,7 +7,7 @@ use lib.Ieee.{Float}
 use Rattle.scalar.specs.Scalar.{is_tolerance}
 use Rattle.refusal.specs.Refusal.{Told, done, refuses, verdict, too_many_blocks, bad_dimension, bad_starts, too_many_stored, out_of_range, bad_parent, not_increasing, bad_value_count, bad_permutation, bad_late_flags, bad_tolerance}
 use Rattle.refusal.specs.Check.{tolerance_check}
-use Rattle.refusal.proofs.Laws.{verdict-stops, verdict-goes}
+use Rattle.refusal.proofs.Laws.{of_test, verdict-stops, verdict-goes}
 use Rattle.tables.specs.Search.{first, fault}
 use Rattle.tables.specs.Verdict.{fault_in, dim_ok, start_ok, row_fits, order_fits, perm_ok, late_ok, parent_ok, areas, blocks_check, dims_check, starts_check, stored_check, rows_check, parents_check, order_check, values_check, perm_check, late_check}
 use Rattle.tables.proofs.FaultLaws.{fault-some, fault-past}
@@ -37,15 +37,11 @@ module _ (ok : ℕ → Bool) (end : ℕ) (refusal : ℕ → Told) where
       by-test true g = absurd (false≢true (sym g ∙ r (first ok 0 end)))
       by-test false g = refl
 
--- ---- a test that is not to hold, or to hold
+-- ---- a test that is not to hold
 
-fails-passes : (b : Bool) (v : Told) → refuses v ≡ true → refuses (cond b v done) ≡ false → b ≡ false
+pub fails-passes : (b : Bool) (v : Told) → refuses v ≡ true → refuses (cond b v done) ≡ false → b ≡ false
 fails-passes true v r h = sym r ∙ h
 fails-passes false v r h = refl
-
-holds-passes : (b : Bool) (v : Told) → refuses v ≡ true → refuses (cond b done v) ≡ false → b ≡ true
-holds-passes true v r h = refl
-holds-passes false v r h = sym h ∙ r
 
 -- ---- 1
 
@@ -163,7 +159,7 @@ module _ (dims starts rows : List ℕ) (count : ℕ) where
 
   pub values-pass : refuses (values_check dims starts rows count) ≡ false → count ≡ areas dims starts rows
   unfolding values_check
-  values-pass h = eqb-true _ _ (holds-passes _ _ refl h)
+  values-pass h = eqb-true _ _ (of_test _ _ refl h)
 
 -- ---- 8
 
@@ -205,4 +201,4 @@ module _ (tol : Float) where
   tolerance-go e = rw e
 
   pub tolerance-pass : refuses (tolerance_check tol) ≡ false → is_tolerance tol ≡ true
-  tolerance-pass h = holds-passes _ _ refl h
+  tolerance-pass h = of_test _ _ refl h

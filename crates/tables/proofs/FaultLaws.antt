@@ -1,6 +1,7 @@
 -- What a search that found a place, or none, says of `fault`. Assumes nothing.
-use Rattle.std.specs.Prelude.{◌≡◌, ℕ, ◌<◌, ◌≤◌, Bool, true, false, cond, ltb, Some, None}
-use mathlib.Core.Path.{refl}
+use Rattle.std.specs.Prelude.{◌≡◌, ℕ, ◌<◌, ◌≤◌, Bool, true, false, cond, ltb, Option, Some, None}
+use Rattle.std.specs.Option.{unwrap_or}
+use mathlib.Core.Path.{refl, sym, ◌∙◌}
 use mathlib.Core.Logic.{⊎_elim}
 use native.Mathlib.Omega.{arith}
 use borrow.Author.Tests.{tests, ltb-true, ltb-false}
@@ -45,3 +46,8 @@ module _ (ok : ℕ → Bool) where
   -- so the test holds at each place
   pub fault-clear : (lo hi : ℕ) → None ≡ fault ok lo hi → (k : ℕ) → lo ≤ k → k < hi → ok k ≡ true
   fault-clear lo hi e k p q = first-none ok lo hi (fault-past lo hi e) k p q
+
+  -- the place found, or the end: where the search ends
+  pub fault-end : (lo hi : ℕ) → lo ≤ hi → (o : Option ℕ) → o ≡ fault ok lo hi → unwrap_or o hi ≡ first ok lo hi
+  fault-end lo hi l (Some k) e = (fault-some lo hi k e).0
+  fault-end lo hi l None e = sym (first_past ok lo hi hi l (omega arith) (fault-clear lo hi e) ∙ first-end ok hi hi (omega arith))

@@ -7,5 +7,6 @@ pub mod MarkLaws
 pub mod TableLaws
 pub mod AreaLaws
 pub mod CheckLaws
+pub mod PassLaws
 pub mod Sound
 pub mod Examples

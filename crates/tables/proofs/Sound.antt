@@ -1,11 +1,13 @@
--- Tables that pass are sound: no check refuses, so each search ran to its end. Assumes nothing.
+-- Tables that pass are sound: no check refuses, so each search ran to its end. And a night's system that is sound passes. Assumes nothing.
 use Rattle.std.specs.Prelude.{◌≡◌, ℕ, false, List, length}
 use lib.Ieee.{Float}
-use Rattle.refusal.specs.Refusal.{refuses}
-use Rattle.refusal.proofs.Laws.{all_pass}
+use mathlib.Core.Path.{refl, ap}
+use Rattle.refusal.specs.Refusal.{done, refuses}
+use Rattle.refusal.proofs.Laws.{all_pass, pass-after}
 use Rattle.tables.specs.Verdict.{blocks_check, dims_check, starts_check, stored_check, rows_check, order_check, perm_check, late_check, system_checks, system_verdict, plan_checks, plan_verdict, factor_checks, factor_verdict, upper_checks, upper_verdict, tree_checks, tree_verdict, from_diagonal, past_diagonal, any_row}
 use Rattle.tables.specs.Sound.{Columns, PlanSound, SystemSound, FactorSound, UpperSound, TreeSound}
-use Rattle.tables.proofs.CheckLaws.{blocks-pass, dims-pass, starts-pass, stored-pass, rows_pass, parents-pass, order-pass, values-pass, perm-pass, late-pass, tolerance-pass}
+use Rattle.tables.proofs.CheckLaws.{blocks-pass, dims-pass, starts-pass, stored-pass, rows_pass, parents-pass, order-pass, values-pass, perm-pass, late-pass, tolerance-pass, blocks-go, stored-go, values-go, tolerance-go}
+use Rattle.tables.proofs.PassLaws.{sizes-done, starts-done, rows-done, order-done, perm-done, late-done}
 use Rattle.tables.proofs.TableLaws.{sizes-of, ordered_of, columns_of, stored-half, stored-limit, permutes-of, flags_of, parents-of}
 
 -- from the checks of A's tables, the permutation and the late flags
@@ -41,6 +43,44 @@ system-sound dims starts rows values perm late tol e =
       counted = values-pass _ _ _ _ p.1.1.1.1.1.1.0;
       tolerance = tolerance-pass _ p.1.1.1.1.1.1.1.1.1.0;
     }
+
+-- and back: the ten checks decide no more than what the record says
+pub system-passes : (dims starts rows : List ℕ) (values : List Float) (perm late : List ℕ) (tol : Float) → SystemSound dims starts rows values perm late tol → refuses (system_verdict dims starts rows values perm late tol) ≡ false
+unfolding system_verdict
+system-passes dims starts rows values perm late tol s =
+    let n = length dims in
+    let p = s.plan in
+    pass-after done (system_checks dims starts rows values perm late tol) refl (
+      ap refuses (blocks-go n p.blocks),
+      (
+        ap refuses (sizes-done dims p.sizes),
+        (
+          ap refuses (starts-done starts n (length rows) p.columns.ordered),
+          (
+            ap refuses (stored-go (length rows) p.stored),
+            (
+              ap refuses (rows-done from_diagonal n starts rows p.columns),
+              (
+                ap refuses (order-done from_diagonal n starts rows p.columns),
+                (
+                  ap refuses (values-go dims starts rows (length values) _ refl s.counted),
+                  (
+                    ap refuses (perm-done perm n p.permutes),
+                    (
+                      ap refuses (late-done late n p.flags p.flagged),
+                      (
+                        ap refuses (tolerance-go tol s.tolerance),
+                        tt,
+                      ),
+                    ),
+                  ),
+                ),
+              ),
+            ),
+          ),
+        ),
+      ),
+    )
 
 pub factor-sound : (dims starts rows : List ℕ) (values : List Float) → refuses (factor_verdict dims starts rows values) ≡ false → FactorSound dims starts rows values
 unfolding factor_verdict

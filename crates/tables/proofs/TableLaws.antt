@@ -15,7 +15,7 @@ use Rattle.graph.specs.Links.{rows_in}
 use Rattle.graph.specs.Order.{Permutes}
 use Rattle.graph.proofs.SetLaws.{elem-cases}
 use Rattle.tables.specs.Search.{fault}
-use Rattle.tables.specs.Verdict.{at, dim_ok, rises_at, start_ok, row_ok, row_fits, order_ok, order_fits, perm_ok, late_ok, parent_ok, past_diagonal}
+use Rattle.tables.specs.Verdict.{at, dim_ok, rises_at, start_ok, row_ok, row_fits, order_ok, order_fits, perm_ok, late_ok, parent_fits, parent_ok, past_diagonal}
 use Rattle.tables.specs.Sound.{Sizes, Ordered, Columns, Measured}
 use Rattle.tables.proofs.Bools.{and_left, and_right}
 use Rattle.tables.proofs.SearchLaws.{lt-or-ge}
@@ -273,7 +273,7 @@ flags_of late n h = (omega (arith, long n (omega arith), no_more), λ k l. leb-t
 -- ---- the parents
 
 pub parents-of : (above : List ℕ) → None ≡ fault (parent_ok above) 0 (length above) → (k : ℕ) → k < length above → (at above k ≡ 4294967295) ⊎ ((k < at above k) × (at above k < length above))
-unfolding parent_ok
+unfolding parent_fits
 parents-of above h k l = by-test (eqb (at above k) 4294967295) refl (fault-clear (parent_ok above) 0 (length above) h k zero-le l)
   where
     by-test : (b : Bool) → eqb (at above k) 4294967295 ≡ b → (b || ltb k (at above k) && ltb (at above k) (length above)) ≡ true → (at above k ≡ 4294967295) ⊎ ((k < at above k) × (at above k < length above))

@@ -72,9 +72,13 @@ perm_ok perm n k =
 unfoldable pub late_ok : (late : List ℕ) → (n : ℕ) → ℕ → Bool
 late_ok late n k = cond (nat_lt k n) (nat_lt k (length late) && nat_le (at late k) 1) (nat_le (length late) k)
 
--- 5: a parent is none, which is 4,294,967,295, or a greater block
-unfoldable pub parent_ok : (parents : List ℕ) → ℕ → Bool
-parent_ok parents k = at parents k == 4294967295 || nat_lt k (at parents k) && nat_lt (at parents k) (length parents)
+-- 5: a parent is none, which is 4,294,967,295, or a greater one of n blocks, whatever the count of the parents
+unfoldable pub parent_fits : (n : ℕ) → (parents : List ℕ) → ℕ → Bool
+parent_fits n parents k = at parents k == 4294967295 || nat_lt k (at parents k) && nat_lt (at parents k) n
+
+-- 5: the same, of as many blocks as there are parents
+abbrev pub parent_ok : (parents : List ℕ) → ℕ → Bool
+parent_ok parents k = parent_fits (length parents) parents k
 
 -- ---- the checks: each passes, or gives its refusal with the first place
 

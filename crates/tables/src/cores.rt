@@ -1,22 +1,14 @@
 // The searches that the checks of tables are made of, those over the row table apart. How one is made:
 //   NAME_ok      one place of one table: its test in specs/Verdict.antt
 //   first_NAME   the first place at which the test fails, if there is one
-// Kept: what is asked of a single number, a place or a count, as a fact of the one call that has it.
+// Kept: `k < length ..` and `n ≤ 4096` are each about a number that the search around counts, or a length; a type for such a number would be built at each turn.
 ghost use Rattle.std.specs.Prelude.{◌≡◌, ℕ, Bool, ◌+◌, ◌<◌, ◌≤◌, length, take};
 ghost use Rattle.tables.specs.Search.{fault};
-ghost use Rattle.tables.specs.Verdict.{dim_ok, rises_at, start_ok, perm_ok, late_ok, parent_ok};
+ghost use Rattle.tables.specs.Verdict.{dim_ok, rises_at, start_ok, perm_ok, late_ok, parent_fits};
 ghost use Rattle.tables.specs.Sound.{Marked};
 
 // The parent of a root.
 pub const NONE: u32 = 4_294_967_295;
-
-// A u32 as a usize.
-// Kept: `usize` has no `From<u32>`, and a call asks nothing, where a cast of an element asks that it fits.
-pub fn wide(x: u32) -> usize
-    ensures { result ≡ x }
-{
-    x as usize
-}
 
 // The dimension of block k is 1 to 16.
 #[tactic(auto, unfolding(crate::specs::Verdict::dim_ok))]
@@ -54,11 +46,11 @@ pub fn rises(starts: &[u32], k: usize) -> bool
     requires { k < length starts.now }
     ensures { result ≡ rises_at starts.now k }
 {
-    let s = wide(starts[k]);
+    let s = starts[k] as usize;
     if k == 0 {
         return s == 0;
     }
-    let b = wide(starts[k - 1]);
+    let b = starts[k - 1] as usize;
     b <= s
 }
 
@@ -79,7 +71,7 @@ pub fn start_ok(starts: &[u32], n: usize, m: usize, k: usize) -> bool
     if k < n {
         return true;
     }
-    wide(starts[k]) == m
+    starts[k] as usize == m
 }
 
 // 3: the first wrong place of the starts of n columns over m rows.
@@ -102,7 +94,7 @@ pub fn perm_ok(perm: &[u32], n: usize, k: usize, seen: &[u8; 4096]) -> bool
     if perm.len() <= k {
         return false;
     }
-    let v = wide(perm[k]);
+    let v = perm[k] as usize;
     if n <= v {
         return false;
     }
@@ -120,7 +112,7 @@ pub fn first_perm(perm: &[u32], n: usize) -> Option<usize>
         if !perm_ok(perm, n, i, &seen) {
             return Some(i);
         }
-        let v = wide(perm[i]);
+        let v = perm[i] as usize;
         seen[v] = 1;
     }
     if perm_ok(perm, n, n, &seen) {
@@ -151,23 +143,23 @@ pub fn first_late(late: &[u32], n: usize) -> Option<usize>
     first_fault(0, n + 1, |k| late_ok(late, n, k))
 }
 
-// The parent of block k is none or a greater block.
-#[tactic(auto, unfolding(crate::specs::Verdict::parent_ok))]
-pub fn parent_ok(parents: &[u32], k: usize) -> bool
+// The parent of block k is none or a greater one of n blocks.
+#[tactic(auto, unfolding(crate::specs::Verdict::parent_fits))]
+pub fn parent_fits(parents: &[u32], n: usize, k: usize) -> bool
     requires { k < length parents.now }
-    ensures { result ≡ parent_ok parents.now k }
+    ensures { result ≡ parent_fits n parents.now k }
 {
     let p = parents[k];
     if p == NONE {
         return true;
     }
-    let at = wide(p);
-    k < at && at < parents.len()
+    let at = p as usize;
+    k < at && at < n
 }
 
-// 5: the first block whose parent is neither none nor a greater block.
-pub fn first_parent(parents: &[u32]) -> Option<usize>
-    ensures { result ≡ fault (parent_ok parents.now) 0 (length parents.now) }
+// 5: the first block whose parent is neither none nor a greater one of n blocks, whatever the count of the parents.
+pub fn first_parent(parents: &[u32], n: usize) -> Option<usize>
+    ensures { result ≡ fault (parent_fits n parents.now) 0 (length parents.now) }
 {
-    first_fault(0, parents.len(), |k| parent_ok(parents, k))
+    first_fault(0, parents.len(), |k| parent_fits(parents, n, k))
 }

@@ -1,6 +1,5 @@
 // The product in tiles, where the lengths are known to be right.
-// Kept: how long a slice is, as a fact beside the sizes. Each core is called in one place or two, with sizes and slices as the source has them; a struct that
-// holds a size and its slice would be built anew at each of them, for the one fact that it spares.
+// Kept: how long each slice is, as a fact about sizes that the slices of a call share: structs with sizes of their own would need as many facts, that these agree.
 ghost use Rattle.std.specs.Prelude.{◌≡◌, ◌+◌, ◌-◌, ◌*◌, ◌<◌, length};
 ghost use Rattle.std.specs.Float.{binary64};
 ghost use Rattle.std.specs.Float.Ieee.{mul};
@@ -50,6 +49,7 @@ impl<'a> Product for Sum<'a> {
 }
 
 // q becomes A B, A of h rows and m columns, B of m rows and w columns, whatever q was.
+// Kept: one choice between `one` and `strips`, as in `tiled_product`, where a line says why.
 pub fn multiply(h: usize, m: usize, w: usize, a: &[f64], b: &[f64], q: &mut [f64])
     requires { (0 < m) × (length a.now ≡ h * m) × (length b.now ≡ m * w) × (length q.old ≡ h * w) }
     ensures { q.new ≡ mat_product h m w a.now b.now }

@@ -141,10 +141,6 @@ module _ (m n : ℕ) (g : ℕ → ℕ → Float → Float) where
 -- ---- the kernel's product
 
 module _ (n k : ℕ) (d b : List Float) (long : length b ≡ n * k) where
-  pub times-length : length (times_diag n k d b) ≡ n * k
-  unfolding times_diag
-  times-length = columns_length n k (λ j t x. mul binary64 x (get_or d t nan)) k b ∙ long
-
   times-at : (j t : ℕ) → j < n → t < k → at (times_diag n k d b) n j t ≡ mul binary64 (at b n j t) (get_or d t nan)
   unfolding times_diag
   times-at j t hj ht = every n k (λ j t x. mul binary64 x (get_or d t nan)) b long j t hj ht

@@ -5,11 +5,11 @@ use Rattle.std.specs.Prelude.{Float}
 use Rattle.std.specs.Float.{nan}
 use Rattle.scalar.specs.Loop.{steps}
 use Rattle.scalar.specs.Block.{at, put, lose}
-use Rattle.kernel_diag_right.specs.DiagRight.{scale_column}
+use Rattle.kernel_diag_right.specs.DiagRight.{columns_scaled}
 
 -- B diag(d), B of n rows and k columns: column t is multiplied by d(t)
 unfoldable pub times_diag : ℕ → ℕ → List Float → List Float → List Float
-times_diag n k d b = steps (λ t. steps (scale_column n t (slice_index_or d t nan)) n) k b
+times_diag n k d b = columns_scaled n k (λ t. slice_index_or d t nan) b
 
 -- ---- entries e written into a list that holds m rows
 

@@ -1,15 +1,17 @@
 // Products in tiles, where the lengths are known to be right: some rows of three columns are held in locals while the turns ascend.
-// Kept: how long a slice is, as a fact beside the sizes. Each core is called in one place or two, with sizes and slices as the source has them; a struct that
-// holds a size and its slice would be built anew at each of them, for the one fact that it spares.
+// Kept: how long each slice is, as a fact about sizes that the slices of a call share: structs with sizes of their own would need as many facts, that these agree.
 ghost use Rattle.std.specs.Prelude.{◌≡◌, ◌+◌, ◌*◌, ◌<◌, ◌≤◌, length};
 ghost use Rattle.scalar.specs.Block.{at, lose};
 ghost use Rattle.tiled_product.specs.Tiled.{Holds, put_down, Formula, Stripped, Stands, Onward, each_entry, worked, worked_on, tiled_by, times_diag, sub_mat_mat_t};
 
+use kernel_diag_right::cores::scale_columns;
 use scalar::cores::{entry, store};
 
 // ---- some entries of a column, one below the other: how many is known to the compiler, so that no loop over them is left
 
 // N entries of column j of y, from row i on.
+// Kept: a loop over the places of an array, here and in `firsts`, `tiled_vector` and `tiled_right`: what it holds after q places is said of the array (`Holds q`), where `from_fn` takes a closure
+// that has to say the same of each place.
 pub fn entries<const N: usize>(h: usize, w: usize, y: &[f64], i: usize, j: usize) -> [f64; N]
     requires { (i + N ≤ h) × (j < w) × (length y.now ≡ h * w) }
     ensures { Holds N (λ q. at y.now h (i + q) j) result }
@@ -49,7 +51,7 @@ pub fn height(left: usize) -> usize
 }
 
 // ---- a product by tiles
-// Kept: a tile's height and width as numbers beside the product that has them: a loop over them keeps them in registers.
+// Kept: the height and the width of y as numbers beside the product: its trait would need two methods more, which only say them again.
 
 // A product of two blocks, by what its entries are worked out from.
 pub trait Product {
@@ -80,6 +82,7 @@ pub trait Product {
 }
 
 // Three columns, which need not differ.
+// Kept: a contract speaks of each by its name; of `[usize; 3]` it would say the entry of a list at a place, some thirty times.
 #[derive(Clone, Copy)]
 pub struct Three {
     pub c0: usize,
@@ -252,16 +255,12 @@ pub fn times_diag_core(n: usize, k: usize, d: &[f64], b: &mut [f64])
     requires { (length d.now ≡ k) × (length b.old ≡ n * k) }
     ensures { b.new ≡ times_diag n k d.now b.old }
 {
-    for t in 0..k {
-        let by = d[t];
-        for j in 0..n {
-            let v = entry(&b[..], n, k, j, t) * by;
-            store(b, n, k, j, t, v);
-        }
-    }
+    scale_columns(n, k, b, |t| d[t]);
 }
 
 // Y := Y - A Bᵀ
+// Kept: one choice between `one` and `strips`, as in `tiled_multiply`: a function of both would hand the product by reference to one that is no part of it, `many`, and so
+// store its seven words at each call, where they are made anew there.
 pub fn sub_mat_mat_t_core(m: usize, n: usize, k: usize, y: &mut [f64], a: &[f64], b: &[f64])
     requires { (length y.old ≡ m * n) × (length a.now ≡ m * k) × (length b.now ≡ n * k) }
     ensures { y.new ≡ sub_mat_mat_t m n k y.old a.now b.now }

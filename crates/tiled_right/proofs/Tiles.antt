@@ -5,7 +5,7 @@
 --     backward-more, -all                and back
 --     above_none, -more, -all            the rows done so far, until all are
 -- Assumes nothing.
-use Rattle.std.specs.Prelude.{◌≡◌, ℕ, zero, suc, ◌+◌, ◌-◌, ◌*◌, ◌<◌, ◌≤◌, Bool, true, false, List, length, get_or, set}
+use Rattle.std.specs.Prelude.{◌≡◌, ℕ, zero, suc, ◌+◌, ◌-◌, ◌*◌, ◌<◌, ◌≤◌, List, length, get_or, set}
 use mathlib.Core.Path.{refl, sym, ap, subst, ◌∙◌}
 use native.Mathlib.Decide.{ℕ_discrete, dec_lt}
 use native.Mathlib.Nat.{le_antisymm}
@@ -15,7 +15,7 @@ use lib.Ieee.{Float, nan, binary64, mul}
 use lib.ListN.{length-set}
 use Rattle.scalar.specs.Loop.{steps}
 use Rattle.scalar.specs.Block.{at, put, lose}
-use Rattle.scalar.proofs.Laws.{steps-same, steps-more}
+use Rattle.scalar.proofs.Laws.{steps-more}
 use Rattle.kernel_diag.specs.Diag.{inverse}
 use Rattle.kernel_right.specs.Right.{lower_right_solve}
 use Rattle.kernel_right_transpose.specs.RightTranspose.{lower_transpose_rightsolve}
@@ -24,8 +24,8 @@ use Rattle.dense_solve_right.specs.SolveRight.{ldlt_right_matsolve}
 use Rattle.tiled_product.specs.Tiled.{Holds, put_down}
 use Rattle.tiled_product.proofs.EntryLaws.{at-put, at_other, by_entries}
 use Rattle.tiled_product.proofs.TileLaws.{Between, between_none, between_more, between_all}
-use Rattle.tiled_right.specs.TiledRight.{RowsSolved, tied, lost}
-use Rattle.tiled_right.proofs.Substitution.{behind, less-same, forward-length, forward-at, scaled-length, scaled_at, backward-length, backward-at}
+use Rattle.tiled_right.specs.TiledRight.{RowsSolved, lost}
+use Rattle.tiled_right.proofs.Substitution.{behind, lost-same, forward-length, forward-at, scaled-length, scaled_at, backward-length, backward-at}
 
 -- ---- rows written into a column
 
@@ -64,12 +64,12 @@ module _ (m n : ℕ) (e : ℕ → Float) (j low : ℕ) (hj : j < n) (x : List Fl
   written (suc count) s fits held =
       rw (held count (omega arith)) (rw add-one at (wrote-more count (put_down m j low count s x) (omega arith) (written count s (omega arith) (λ q h. held q (omega arith)))))
 
--- those that are held in locals, each by itself
-module _ (m n : ℕ) (l x : List Float) (j first : ℕ) (after : Bool) (i : ℕ) where
-  -- they, less what they lose by v columns
+-- those that are held in locals, each by itself: they lose the columns c, each times its b
+module _ (m : ℕ) (x : List Float) (c : ℕ → ℕ) (b : ℕ → Float) (i : ℕ) where
+  -- they, less what they lose in v turns
   module _ (s : List Float) where
     abbrev pub Lost : (v count : ℕ) → List Float → Type 0
-    Lost v count = Holds count (λ q. lost m n l x j first after (i + q) v (get_or s q nan))
+    Lost v count = Holds count (λ q. lost m x (i + q) c b v (get_or s q nan))
 
     pub lost_none : (count : ℕ) → Lost 0 count s
     unfolding steps
@@ -77,16 +77,16 @@ module _ (m n : ℕ) (l x : List Float) (j first : ℕ) (after : Bool) (i : ℕ)
 
     -- and by the next, the first q of them
     abbrev pub Losing : (v q count : ℕ) → List Float → Type 0
-    Losing v = Between (λ q. lost m n l x j first after (i + q) v (get_or s q nan)) (λ q. lost m n l x j first after (i + q) (v + 1) (get_or s q nan))
+    Losing v = Between (λ q. lost m x (i + q) c b v (get_or s q nan)) (λ q. lost m x (i + q) c b (v + 1) (get_or s q nan))
 
     pub losing_none : (v count : ℕ) (z : List Float) → Lost v count z → Losing v 0 count z
     losing_none v count z held = between_none _ _ count z held
 
     pub losing_more : (v q count : ℕ) (z : List Float) (y : Float) → q < count → length z ≡ count → Losing v q count z
-        → y ≡ lose (get_or z q nan) (at x m (i + q) (first + v)) (tied n l j (first + v) after) → Losing v (q + 1) count (set z q y)
+        → y ≡ lose (get_or z q nan) (at x m (i + q) (c v)) (b v) → Losing v (q + 1) count (set z q y)
     losing_more v q count z y fits long held e =
         between_more _ _ q count z y fits long held
-        (λ was. e ∙ steps-more (λ v s. lose s (at x m (i + q) (first + v)) (tied n l j (first + v) after)) v (get_or s q nan) (get_or z q nan) was)
+        (λ was. e ∙ steps-more (λ v s. lose s (at x m (i + q) (c v)) (b v)) v (get_or s q nan) (get_or z q nan) was)
 
     pub losing_all : (v q count : ℕ) (z : List Float) → count ≤ q → Losing v q count z → Lost (v + 1) count z
     losing_all v q count z lo held = between_all _ _ q count z lo held
@@ -94,14 +94,14 @@ module _ (m n : ℕ) (l x : List Float) (j first : ℕ) (after : Bool) (i : ℕ)
     pub lost_all : (v w count : ℕ) (z : List Float) → v ≤ w → w ≤ v → Lost v count z → Lost w count z
     lost_all v w count z lo hi = subst (λ (v : ℕ). Lost v count z) (le_antisymm lo hi)
 
-  -- where row r starts from `start r`, and loses by `count` columns
-  module _ (count : ℕ) (start : ℕ → Float) (hj : j < n) (long : length x ≡ m * n) where
+  -- where row r starts from `start r`, and loses in `count` turns
+  module _ (n j count : ℕ) (start : ℕ → Float) (hj : j < n) (long : length x ≡ m * n) where
     pub rows-wrote : (tall : ℕ) (s z y : List Float) → i + tall ≤ m → Holds tall (λ q. start (i + q)) s → Lost s count tall z → y ≡ put_down m j i tall z x
-        → Wrote m (λ r. lost m n l x j first after r count (start r)) j i tall x y
+        → Wrote m (λ r. lost m x r c b count (start r)) j i tall x y
     rows-wrote tall s z y fits from held w =
         rw w
-        (written m n (λ r. lost m n l x j first after r count (start r)) j i hj x long tall z fits
-        (λ q h. held q h ∙ ap (lost m n l x j first after (i + q) count) (from q h)))
+        (written m n (λ r. lost m x r c b count (start r)) j i hj x long tall z fits
+        (λ q h. held q h ∙ ap (lost m x (i + q) c b count) (from q h)))
 
 -- ---- how far a tile is: its columns below a hold y's entries, and those from b on w's; the rows above it are as they were in x₀
 
@@ -179,24 +179,23 @@ module _ (m n : ℕ) (l d from : List Float) (long : length from ≡ m * n) wher
 
   module _ (low count : ℕ) (fits : low + count ≤ m) (x₀ : List Float) where
     pub forward-more : (j : ℕ) (x x' : List Float) → j < n → Tile m n l d from low count x₀ j n x
-        → Wrote m (λ r. lost m n l x j 0 false r j (at from m r j)) j low count x x' → Tile m n l d from low count x₀ (j + 1) n x'
+        → Wrote m (λ r. lost m x r (λ v. v) (at l n j) j (at from m r j)) j low count x x' → Tile m n l d from low count x₀ (j + 1) n x'
     forward-more j x x' hj s o =
-        held_more m n forward solved low count fits x₀ j n (j + 1) n j (λ r. lost m n l x j 0 false r j (at from m r j)) x x' s o (λ c g q. omega arith) (λ c g q. g)
+        held_more m n forward solved low count fits x₀ j n (j + 1) n j (λ r. lost m x r (λ v. v) (at l n j) j (at from m r j)) x x' s o (λ c g q. omega arith) (λ c g q. g)
         (λ g r p h.
-        steps-same (λ v z. lose z (at x m r (0 + v)) (at l n j (0 + v))) (λ v z. lose z (at forward m r v) (at l n j v)) j
-        (λ v z k. let e : 0 + v ≡ v = omega arith in rw (e, s.left r v p h k)) (at from m r j)
+        lost-same m x forward r (λ v. v) (at l n j) j (λ v k. s.left r v p h k) (at from m r j)
         ∙ sym (forward-at m n l from long r j (omega arith) hj))
         (λ g. absurd (omega arith))
 
     pub backward-more : (u : ℕ) (x x' : List Float) → u < n → Tile m n l d from low count x₀ (n - u) (n - u) x
-        → Wrote m (λ r. lost m n l x (n - 1 - u) (n - 1 - u + 1) true r u (scaled_by u (at x m r (n - 1 - u)))) (n - 1 - u) low count x x'
+        → Wrote m (λ r. behind m n l x r u (scaled_by u (at x m r (n - 1 - u)))) (n - 1 - u) low count x x'
         → Tile m n l d from low count x₀ (n - (u + 1)) (n - (u + 1)) x'
     backward-more u x x' hu s o =
         held_more m n forward solved low count fits x₀ (n - u) (n - u) (n - (u + 1)) (n - (u + 1)) (n - 1 - u) (λ r. behind m n l x r u (scaled_by u (at x m r (n - 1 - u)))) x x' s o
         (λ c g q. omega arith) (λ c g q. omega arith)
         (λ g. absurd (omega arith))
         (λ g r p h.
-        less-same m x solved r (λ v. n - 1 - u + 1 + v) (λ v. at l n (n - 1 - u + 1 + v) (n - 1 - u)) u (λ v k. s.right r (n - 1 - u + 1 + v) p h (omega arith) (omega arith)) _
+        lost-same m x solved r (λ v. n - 1 - u + 1 + v) (λ v. at l n (n - 1 - u + 1 + v) (n - 1 - u)) u (λ v k. s.right r (n - 1 - u + 1 + v) p h (omega arith) (omega arith)) _
         ∙ ap (λ (z : Float). behind m n l solved r u (scaled_by u z)) (s.left r (n - 1 - u) p h (omega arith))
         ∙ solved-at r u (omega arith) hu)
 

@@ -1,21 +1,19 @@
 // The solve where the lengths are known to be right.
-// Kept: how long a slice is, as a fact beside the sizes. Each core is called in one place or two, with sizes and slices as the source has them; a struct that
-// holds a size and its slice would be built anew at each of them, for the one fact that it spares.
-ghost use Rattle.std.specs.Prelude.{◌≡◌, ◌+◌, ◌*◌, ◌<◌, ◌≤◌, length, slice_index_or};
+// Kept: how long each slice is, as a fact about sizes that the slices of a call share: structs with sizes of their own would need as many facts, that these agree.
+ghost use Rattle.std.specs.Prelude.{◌≡◌, ℕ, ◌+◌, ◌*◌, ◌<◌, ◌≤◌, Float, length, slice_index_or};
 ghost use Rattle.std.specs.Float.{nan, binary64};
 ghost use Rattle.std.specs.Float.Ieee.{mul};
-ghost use Rattle.scalar.specs.Block.{at};
 ghost use Rattle.dense_solve_right.specs.SolveRight.{ldlt_right_matsolve};
 ghost use Rattle.tiled_product.specs.Tiled.{Holds};
-ghost use Rattle.tiled_right.specs.TiledRight.{RowsSolved, tied, lost};
+ghost use Rattle.tiled_right.specs.TiledRight.{RowsSolved, lost};
 
 use kernel_diag::cores::inverse_of;
 use scalar::cores::entry;
 use tiled_product::cores::{entries, height, keep};
 
 // x becomes the block `from`, of m rows and n columns, solved from the right by the unit factor l and d: several rows at a time.
-// Kept: what goes by tiles has its loop in common and no more; its step has a const parameter, which no closure takes, and a trait for it would need a struct
-// of the call's arguments at each of the four places.
+// Kept: this loop over tiles of four rows, three or one stands at three places, here, in `tiled_product` and in `tiled_vector`. Its step has a const parameter, which no
+// closure takes, and a trait for it would need a struct of the call's arguments at each of them.
 pub fn ldlt_right_matsolve_tiled(
     m: usize,
     n: usize,
@@ -59,54 +57,48 @@ fn rows<const N: usize>(
 {
     for j in 0..n {
         let s = entries::<N>(m, n, from, i, j);
-        let z = lost(m, n, l, &x[..], i, j, 0, j, false, s);
+        let z = lost(m, n, &x[..], i, j, |t| (t, entry(l, n, n, j, t)), s);
         keep(m, n, x, i, j, z);
     }
     for u in 0..n {
         let j = n - 1 - u;
         let s = times(entries::<N>(m, n, &x[..], i, j), inverse_of(d[j]));
-        let z = lost(m, n, l, &x[..], i, j, j + 1, u, true, s);
+        let z = lost(
+            m,
+            n,
+            &x[..],
+            i,
+            u,
+            |v| (j + 1 + v, entry(l, n, n, j + 1 + v, j)),
+            s,
+        );
         keep(m, n, x, i, j, z);
     }
 }
 
-// N entries s of column j, from row i on, less what they lose by the `count` columns from `first` on, which stand after it or before.
-fn lost<const N: usize>(
+// N entries s, of the rows from i on, less what they lose in `count` turns: a turn's term is a column and the factor of it.
+fn lost<const N: usize, F: Fn(usize) -> (usize, f64)>(
     m: usize,
     n: usize,
-    l: &[f64],
     x: &[f64],
     i: usize,
-    j: usize,
-    first: usize,
     count: usize,
-    after: bool,
+    term: F,
     s: [f64; N],
 ) -> [f64; N]
-    requires { (i + N ≤ m) × (j < n) × (first + count ≤ n) × (length l.now ≡ n * n) × (length x.now ≡ m * n) }
-    ensures { Holds N (λ q. lost m n l.now x.now j first after (i + q) count (slice_index_or s.entry q nan)) result }
+    requires fits { (i + N ≤ m) × (length x.now ≡ m * n) }
+    requires callable { (v : ℕ) → v < count → F.pre term v }
+    requires within { (v : ℕ) (z : _) → v < count → F.post term v z → z.0 < n }
+    ensures { (c : ℕ → ℕ) (b : ℕ → Float) → ((v : ℕ) (z : _) → v < count → F.post term v z → (z.0 ≡ c v) × (z.1 ≡ b v)) → Holds N (λ q. lost m x.now (i + q) c b count (slice_index_or s.entry q nan)) result }
 {
     let mut z = s;
     for v in 0..count {
-        let t = first + v;
-        let by = tied(n, l, j, t, after);
+        let (t, by) = term(v);
         for q in 0..N {
             z[q] = z[q] - entry(x, m, n, i + q, t) * by;
         }
     }
     z
-}
-
-// The entry of L by which column j loses column t: L(t, j) where t stands after j, and L(j, t) where it stands before.
-fn tied(n: usize, l: &[f64], j: usize, t: usize, after: bool) -> f64
-    requires { (j < n) × (t < n) × (length l.now ≡ n * n) }
-    ensures { result ≡ tied n l.now j t after }
-{
-    if after {
-        entry(l, n, n, t, j)
-    } else {
-        entry(l, n, n, j, t)
-    }
 }
 
 // Each of N entries times a factor.

@@ -1,23 +1,20 @@
--- A part of a vector, `size` numbers from `off` on, whose numbers lose their sums one after the other.
+-- A vector whose numbers lose their sums one after the other.
 --     sums_none, -more, -all               sums gathered side by side are those gathered by themselves
 --     held-less                            and lost
---     part_none, -more, -all               how far the part is
+--     less_more, -length, -all             how far the vector is
 -- Assumes nothing.
-use Rattle.std.specs.Prelude.{◌≡◌, ℕ, zero, suc, ◌+◌, ◌≤◌, ◌⊎◌, List, ◌++◌, length, take, drop, get_or, replicate}
+use Rattle.std.specs.Prelude.{◌≡◌, ℕ, zero, suc, ◌+◌, ◌≤◌, List, length, get_or, replicate}
 use mathlib.Core.Path.{refl, sym, ap, subst, ◌∙◌}
 use native.Mathlib.Nat.{le_antisymm}
 use native.Mathlib.Omega.{arith}
 use lib.Ieee.{Float, nan}
-use lib.ListN.{length-set, take-append-drop}
-use lib.Seq.{take_at, drop_at, length-take-le}
+use lib.ListN.{length-set}
 use Rattle.std.proofs.lemmas.List.{get_or-replicate}
 use Rattle.scalar.specs.Loop.{steps}
-use Rattle.scalar.specs.Block.{gain, within}
+use Rattle.scalar.specs.Block.{gain}
 use Rattle.scalar.specs.Scalar.{nought}
 use Rattle.scalar.proofs.Laws.{steps-more, steps-same}
 use Rattle.tiled_product.specs.Tiled.{Holds}
-use Rattle.block_product.specs.Working.{slot}
-use Rattle.block_product.proofs.SlotLaws.{slot-length, slot-other, within-length}
 use Rattle.tiled_vector.specs.TiledVector.{less, less_held, less_from, each_less}
 
 -- ---- sums side by side: at turn u that of number q gains e u q times b u
@@ -62,53 +59,13 @@ module _ (sum : ℕ → Float) where
   pub held-less : (r n : ℕ) (s z : List Float) → Holds n (λ q. sum (r + q)) s → less_held r n s z ≡ less_from sum r n z
   held-less r n s z held = steps-same (λ q. less (r + q) (get_or s q nan)) (λ q. less (r + q) (sum (r + q))) n (λ q x h. ap (λ (y : Float). less (r + q) y x) (held q h)) z
 
--- ---- the part
+  -- n numbers more
+  pub less_more : (r n : ℕ) (z x x' : List Float) → x ≡ each_less sum r z → x' ≡ less_from sum r n x → x' ≡ each_less sum (r + n) z
+  less_more r n z x x' e w = w ∙ ap (less_from sum r n) e ∙ more-less r n z
 
-module _ (off size : ℕ) (y : List Float) (fits : off + size ≤ length y) where
-  -- a change of the part after another
-  twice : (f g : List Float → List Float) → length (f (slot off size y)) ≡ size → within off size g (within off size f y) ≡ within off size (λ z. g (f z)) y
-  twice f g keeps =
-      let old = f (slot off size y) in
-      let rest = drop size (drop off y) in
-      let head = length-take-le off y (omega arith) in
-      ap (λ (l : List Float). l ++ (g (slot off size (within off size f y)) ++ drop size (drop off (within off size f y)))) (take_at (take off y) (old ++ rest) off head)
-      ∙ ap (λ (l : List Float). take off y ++ (g (take size l) ++ drop size l)) (drop_at (take off y) (old ++ rest) off head)
-      ∙ ap (λ (l : List Float). take off y ++ (g l ++ drop size (old ++ rest))) (take_at old rest size keeps)
-      ∙ ap (λ (l : List Float). take off y ++ (g old ++ l)) (drop_at old rest size keeps)
+  -- as long as it was
+  pub less-length : (r : ℕ) (z x : List Float) → x ≡ each_less sum r z → length x ≡ length z
+  less-length r z x e = ap length e ∙ each-length r z
 
-  -- The sums are made of n numbers of the vector from o on, which stand apart from the part.
-  module _ (o n : ℕ) (apart : (o + n ≤ off) ⊎ (off + size ≤ o)) (sums : List Float → ℕ → Float) where
-    abbrev sum : ℕ → Float
-    sum = sums (slot o n y)
-
-    -- the vector where the part's first r numbers have lost their sums
-    abbrev pub Part : ℕ → List Float → Type 0
-    Part r x = x ≡ within off size (each_less sum r) y
-
-    keeps : (r : ℕ) → length (each_less sum r (slot off size y)) ≡ size
-    keeps r = each-length sum r (slot off size y) ∙ slot-length y off size fits
-
-    pub part_none : Part 0 y
-    unfolding steps
-    part_none = sym (ap (λ (l : List Float). take off y ++ l) (take-append-drop size (drop off y)) ∙ take-append-drop off y)
-
-    -- k more, which change a part by g
-    more : (g : (ℕ → Float) → List Float → List Float) (r k : ℕ) → ((z : List Float) → g sum (each_less sum r z) ≡ each_less sum (r + k) z)
-        → (x x' : List Float) → Part r x → x' ≡ within off size (g (sums (slot o n x))) x → Part (r + k) x'
-    more g r k next x x' e w =
-        let now = within off size (each_less sum r) y in
-        w ∙ ap (λ (l : List Float). within off size (g (sums (slot o n l))) l) e
-        ∙ ap (λ (b : List Float). within off size (g (sums b)) now) (slot-other off size (each_less sum r) y fits (keeps r) o n apart)
-        ∙ twice (each_less sum r) (g sum) (keeps r)
-        ∙ ap (λ (z : List Float). take off y ++ (z ++ drop size (drop off y))) (next (slot off size y))
-
-    module _ (r : ℕ) (x x' : List Float) (e : Part r x) where
-      pub part_more : (k : ℕ) → x' ≡ within off size (less_from (sums (slot o n x)) r k) x → Part (r + k) x'
-      part_more k = more (λ s. less_from s r k) r k (more-less sum r k) x x' e
-
-      -- it is as long as it was
-      pub part_length : length x ≡ length y
-      part_length = ap length e ∙ within-length off size (each_less sum r) y fits (keeps r)
-
-    pub part-all : (r : ℕ) (x : List Float) → r ≤ size → size ≤ r → Part r x → Part size x
-    part-all r x lo hi e = let q : r ≡ size = omega arith in subst (λ (r : ℕ). Part r x) q e
+  pub less-all : (r n : ℕ) (z x : List Float) → r ≤ n → n ≤ r → x ≡ each_less sum r z → x ≡ each_less sum n z
+  less-all r n z x lo hi = subst (λ (k : ℕ). x ≡ each_less sum k z) (le_antisymm lo hi)

@@ -1,4 +1,4 @@
-// A block times one part of a vector, lost by another part of the same vector: several numbers at a time, and no part is copied.
+// A block times a vector, lost by another one: several numbers at a time.
 #![tactic(auto)]
 
 pub mod cores;

@@ -4,7 +4,7 @@
 use crate::told::says;
 use word_list::cases::{BadList, Case, kind};
 use word_list::lent::{listed, table};
-use word_list::room::{BLOCKS, held};
+use word_list::room::{BLOCKS, Room};
 use word_list::tally::Count;
 
 // What a call asks for.
@@ -40,23 +40,18 @@ pub fn next() -> Result<Option<Case>, BadList> {
 
 // The tables and buffers, then the calls: how many come out as listed.
 fn called(h: &[u32; 6]) -> usize {
-    let k1 = held(h[1], BLOCKS);
-    let k2 = held(h[2], BLOCKS);
-    let k3 = held(h[3], BLOCKS);
-    let k4 = held(h[4], BLOCKS);
-    let k5 = held(h[5], BLOCKS);
-    let starts: [u32; 4112] = table(k1);
-    let rows: [u32; 4112] = table(k2);
-    let parents: [u32; 4112] = table(k3);
-    let mut a: [u32; 4112] = table(k4);
-    let mut b: [u32; 4112] = table(k5);
+    let starts: Room<u32, BLOCKS> = Room::table(h[1]);
+    let rows: Room<u32, BLOCKS> = Room::table(h[2]);
+    let parents: Room<u32, BLOCKS> = Room::table(h[3]);
+    let mut a: Room<u32, BLOCKS> = Room::table(h[4]);
+    let mut b: Room<u32, BLOCKS> = Room::table(h[5]);
     calls(
         h[0],
-        &starts[..k1],
-        &rows[..k2],
-        &parents[..k3],
-        &mut a[..k4],
-        &mut b[..k5],
+        starts.part(),
+        rows.part(),
+        parents.part(),
+        a.part_mut(),
+        b.part_mut(),
     )
 }
 

@@ -7,13 +7,17 @@ mod print;
 mod told;
 
 use word_list::cases::replay;
-use word_list::print::summary;
+use word_list::print::{summary, wrong};
 
 // The turns at the list at most, its end among them.
 const MOST: u64 = 65536;
 
 fn main() {
-    match replay::<16, _, _>(MOST, call::next, print::wrong) {
+    match replay::<16, _, _>(
+        MOST,
+        call::next,
+        |k, kind| wrong(b"turn", &print::NAMES, k, kind),
+    ) {
         Ok(tally) => summary(&print::NAMES, &tally),
         Err(_) => print::bad(),
     }

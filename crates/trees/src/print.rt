@@ -1,6 +1,5 @@
 // What the program writes.
-use io::{print_decimal, write_all};
-use word_list::print::name;
+use io::write_all;
 
 const STDOUT: i32 = 1;
 
@@ -24,14 +23,4 @@ pub const NAMES: [&[u8]; 13] = [
 // The list is bad.
 pub fn bad() {
     write_all(STDOUT, b"bad list\n");
-}
-
-// A call of a turn comes out otherwise than listed.
-// Kept: the list's number of a kind, by which its name stands in the table.
-pub fn wrong(k: u64, kind: usize) {
-    write_all(STDOUT, b"wrong: turn ");
-    print_decimal(STDOUT, k);
-    write_all(STDOUT, b", ");
-    name(&NAMES, kind);
-    write_all(STDOUT, b"\n");
 }

@@ -4,6 +4,7 @@ use reach::ReachError;
 use refusal::{Refusal, number_of};
 
 // A refusal with the two places that it carries, 0 where it has none.
+// Kept: a trait of the program's own: the errors are of other crates, and so would be a trait in `word_list`, which then could not be implemented here.
 pub trait Carries {
     fn carried(&self) -> (usize, usize);
 }

@@ -86,6 +86,7 @@ pub fn check_upper(n: usize, starts: &[u32], rows: &[u32]) -> Result<(), UpperEr
 }
 
 // An upper pattern of as many blocks as there are parents, each of which is none or a greater block.
+// Kept: `check_upper` cannot be called for the pattern: the parents are tested between its rows and their order.
 #[tactic(auto, using(crate::proofs::TreeLaws::tree_laws))]
 pub fn check_tree(starts: &[u32], rows: &[u32], parents: &[u32]) -> Result<(), TreeError>
     ensures { told_tree result ≡ tree_verdict starts.now rows.now parents.now }
@@ -100,7 +101,7 @@ pub fn check_tree(starts: &[u32], rows: &[u32], parents: &[u32]) -> Result<(), T
     if let Some(place) = first_row(starts, rows, n, Least::Any) {
         return Err(TreeError::Row { place });
     }
-    if let Some(place) = first_parent(parents) {
+    if let Some(place) = first_parent(parents, n) {
         return Err(TreeError::Parent { place });
     }
     if let Some(place) = first_fall(starts, rows, n) {

@@ -13,7 +13,7 @@ ghost use Rattle.vector_answers.specs.Answer.{spelled, Listed};
 use block_diag_ldlt::DecomposeError;
 use dense_ldlt::LdltError;
 use dense_pivots::{Definiteness, LdltResult};
-use refusal::ShapeError;
+use refusal::{ShapeError, number_of};
 use replay::{count, float, on, same};
 
 // Kept: the list has a word for the number and for each count, and `matches` compares those words; an `Option` or a list would be counted for it.
@@ -79,10 +79,12 @@ impl From<Result<(), ShapeError>> for Told {
     ghost from_gives = { λ s t. spelled t ≡ told s };
 
     fn from(s: Result<(), ShapeError>) -> Told {
+        let number = number_of(&s) as usize;
         match s {
-            Ok(_) => bare(0),
-            Err(ShapeError::Dimension { place }) => placed(2, place),
-            Err(ShapeError::Mismatch { place }) => placed(12, place),
+            Ok(_) => bare(number),
+            Err(ShapeError::Dimension { place } | ShapeError::Mismatch { place }) => placed(
+                number, place,
+            ),
         }
     }
 }
@@ -91,12 +93,14 @@ impl From<Result<LdltResult, LdltError>> for Told {
     ghost from_gives = { λ r t. spelled t ≡ told_dense r };
 
     fn from(r: Result<LdltResult, LdltError>) -> Told {
+        let number = number_of(&r) as usize;
         match r {
             Ok(k) => Told::from(k),
-            Err(LdltError::Dimension { place }) => placed(2, place),
-            Err(LdltError::Tolerance) => bare(10),
-            Err(LdltError::Mismatch { place }) => placed(12, place),
-            Err(LdltError::NotFinite { place, pivot }) => full(13, 0, place, pivot),
+            Err(LdltError::Tolerance) => bare(number),
+            Err(LdltError::Dimension { place } | LdltError::Mismatch { place }) => placed(
+                number, place,
+            ),
+            Err(LdltError::NotFinite { place, pivot }) => full(number, 0, place, pivot),
         }
     }
 }
@@ -105,14 +109,16 @@ impl From<Result<LdltResult, DecomposeError>> for Told {
     ghost from_gives = { λ r t. spelled t ≡ told_block r };
 
     fn from(r: Result<LdltResult, DecomposeError>) -> Told {
+        let number = number_of(&r) as usize;
         match r {
             Ok(k) => Told::from(k),
-            Err(DecomposeError::Dimension { place }) => placed(2, place),
-            Err(DecomposeError::Tolerance) => bare(10),
-            Err(DecomposeError::Mismatch { place }) => placed(12, place),
-            Err(DecomposeError::NotFinite { place, pivot }) => full(13, 0, place, pivot),
+            Err(DecomposeError::Tolerance) => bare(number),
+            Err(DecomposeError::Dimension { place } | DecomposeError::Mismatch { place }) => placed(
+                number, place,
+            ),
+            Err(DecomposeError::NotFinite { place, pivot }) => full(number, 0, place, pivot),
             Err(DecomposeError::Poor { condition }) => Told {
-                number: 14,
+                number,
                 indices: 1,
                 first: 0,
                 second: 0,

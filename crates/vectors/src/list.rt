@@ -1,10 +1,11 @@
 // One case of the list: read, laid out, replayed and judged.
-ghost use Rattle.std.specs.Prelude.{◌≡◌, ◌≤◌, length};
+ghost use Rattle.std.specs.Prelude.{◌≤◌};
 
 use crate::calls::{Op, call, head_of};
 use replay::{count, fill, on, same_slice};
 use vector_answers::matches;
 use word_list::cases::{BadList, Case};
+use word_list::room::Room;
 
 const STDIN: i32 = 0;
 
@@ -45,28 +46,22 @@ fn is_right(w: &[u8], op: Op) -> bool {
     let mut b = numbers(w, 1);
     let mut c = numbers(w, 2);
     let mut d = numbers(w, 3);
-    let la = length_of(w, 0);
-    let lb = length_of(w, 1);
-    let lc = length_of(w, 2);
-    let ld = length_of(w, 3);
     agrees(
         w,
         op,
-        &mut a[..la],
-        &mut b[..lb],
-        &mut c[..lc],
-        &mut d[..ld],
+        a.part_mut(),
+        b.part_mut(),
+        c.part_mut(),
+        d.part_mut(),
     )
 }
 
 // Slice i's numbers before the call, and zeros after them.
-fn numbers(w: &[u8], i: usize) -> [f64; 512]
-    ensures { 512 ≡ length result }
-{
-    let mut x = [0.0; 512];
-    let n = length_of(w, i);
-    fill(w, on(place(w, i), 1), &mut x[..n]);
-    x
+fn numbers(w: &[u8], i: usize) -> Room<f64, ROOM> {
+    let mut places = [0.0; ROOM];
+    let long = length_of(w, i);
+    fill(w, on(place(w, i), 1), &mut places[..long]);
+    Room { places, long }
 }
 
 // Whether the call on a, b, c and d answers as the list says, and every slice is afterwards what it says.
@@ -95,7 +90,7 @@ fn have_room(w: &[u8], slices: usize) -> bool {
 
 // The length of slice i, at most the room for it; 0 where the case has no such slice.
 fn length_of(w: &[u8], i: usize) -> usize
-    ensures { result ≤ 512 }
+    ensures { result ≤ ROOM }
 {
     if count(w, 5) <= i {
         return 0;

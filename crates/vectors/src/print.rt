@@ -30,9 +30,9 @@ const NAMES: [&[u8]; 20] = [
 
 // A line for each op, and one for all.
 pub fn summary(tally: &Tally<21>) {
-    for op in 1..21usize {
-        write_all(STDOUT, NAMES[op - 1]);
-        counts(tally.counts[op]);
+    for (name, count) in NAMES.iter().zip(tally.counts.iter().skip(1)) {
+        write_all(STDOUT, name);
+        counts(*count);
     }
     counts(tally.total());
 }

@@ -1,6 +1,8 @@
 // A block shown as its numbers with its height and width: a struct that holds a slice. The work is done by functions on the
 // slice and the sizes, which take the struct's fields first and in their order. The functions over the struct take it apart
-// and call those; each is proved by a walk of its MIR.
+// and call those.
+// Kept: functions and no methods, each in two forms, on the slice and on the struct: document 01 asks for the view with its accessor and `sub_mat_plus_vec_inplace` over it, and
+// the page of the promises names both.
 #![tactic(auto)]
 
 ghost use Rattle.std.specs.Prelude.{◌≡◌, ◌*◌, ◌<◌, length, OnOk};

@@ -1,13 +1,9 @@
 -- The laws of several tests together. Assumes nothing.
 use mathlib.Core.Path.{◌≡◌, refl, sym}
 use mathlib.Core.Bool.{Bool, true, false, ◌&&◌}
-use Prim.Native.Nat.{ℕ}
-use native.Mathlib.Omega.{arith}
+use Rattle.replay.proofs.Laws.{never}
 
 -- ---- tests
-
-pub never : {A : Type 0} → false ≡ true → A
-never h = let z : ◌≡◌ {A = ℕ} 0 1 = cc in absurd (omega arith)
 
 -- the first of several tests fails, or leaves it to the others
 pub fails : (a b : Bool) → a ≡ false → false ≡ (a && b)

@@ -9,6 +9,10 @@ Marked marks from xs = (k : ℕ) → from ≤ k → k < length xs → slice_get 
 abbrev pub Holds : {E : Type 0} → ℕ → E → List E → Type 0
 Holds upto x xs = (upto ≤ length xs) × ((k : ℕ) → k < upto → slice_get xs k ≡ Some x)
 
+-- a fact of each of a list
+abbrev pub Each : {A : Type 0} → List A → (A → Type 0) → Type 0
+Each xs fact = (k : ℕ) (x : _) → slice_get xs k ≡ Some x → fact x
+
 -- what a test of a fact tells
 pub record Tells (fact : Type 0) (r : Bool) : Type 0 where
   pub only : r ≡ true → fact

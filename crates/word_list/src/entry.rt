@@ -3,11 +3,11 @@ ghost use Rattle.std.specs.Prelude.{◌≡◌, ℕ};
 ghost use Rattle.std.specs.Float.{binary64};
 ghost use Rattle.std.specs.Float.Ieee.{of_bits};
 ghost use Rattle.scalar.specs.Scalar.{nought as float_nought};
+ghost use Rattle.bits.specs.Bytes.{whole_of};
 ghost use Rattle.word_list.specs.Lent.{Tells};
 ghost use Rattle.word_list.specs.Mark.{word_mark, float_mark};
-ghost use Rattle.word_list.specs.Words.{whole_of};
 
-use bits::number;
+use bits::{number, whole};
 use replay::same;
 
 const STDIN: i32 = 0;
@@ -89,11 +89,4 @@ pub fn float(low: u32, high: u32) -> f64
     ensures { result ≡ of_bits binary64 (whole_of low high) }
 {
     number(whole(low, high))
-}
-
-// The number of 64 bits with this low and this high word.
-pub fn whole(low: u32, high: u32) -> u64
-    ensures { result ≡ whole_of low high }
-{
-    u64::from(low) + 4294967296 * u64::from(high)
 }

@@ -1,8 +1,10 @@
 // The tables that are lent to a call: marked before it, and after it zeros or what the list says, and marks beyond.
-ghost use Rattle.std.specs.Prelude.{◌≡◌, true, ◌≤◌, ◌<◌, length, drop, IfSome};
-ghost use Rattle.word_list.specs.Lent.{Marked, Holds, Tells};
+// Kept: how many entries the list has for a table, `upto`, beside the table: it may be more than the table has, and the places beyond are looked at too.
+ghost use Rattle.std.specs.Prelude.{◌≡◌, true, ◌≤◌, ◌<◌, length, drop, replicate, IfSome};
+ghost use Rattle.word_list.specs.Lent.{Marked, Holds, Each, Tells};
 
 use crate::entry::Entry;
+use bits::cores::set_each;
 
 // A buffer to lend, marked.
 pub fn lent<E: Entry, const N: usize>() -> [E; N]
@@ -14,9 +16,10 @@ pub fn lent<E: Entry, const N: usize>() -> [E; N]
     x
 }
 
-// The next entries of the list as a table.
+// The next entries of the list as a table, and zeros beyond.
 pub fn table<E: Entry, const N: usize>(upto: usize) -> [E; N]
-    ensures { N ≡ length result }
+    ensures room { N ≡ length result }
+    ensures beyond { drop upto result ≡ drop upto (replicate N E.nought) }
 {
     let mut x = [E::zero(); N];
     read(&mut x, upto);
@@ -28,9 +31,7 @@ pub fn mark<E: Entry>(out: &mut [E])
     ensures room { length out.new ≡ length out.old }
     ensures marked { Marked E.marks 0 out.new }
 {
-    for k in 0..out.len() {
-        out[k] = E::mark(k);
-    }
+    set_each(out, |k| E::mark(k));
 }
 
 // Fills the first `upto` places of a table from the list, with 0 where the input has ended. The places beyond stay.
@@ -70,6 +71,7 @@ fn is_at<E: Entry>(a: &[E], k: usize, x: Option<E>) -> bool
 pub fn kept<E: Entry>(a: &[E], from: usize) -> bool
     ensures { Tells (Marked E.marks from a.now) result }
 {
+    // Kept: tried as `all` over the places, and over the part of the table from there on: the search does not find what it answers of all marks.
     for k in from..a.len() {
         if !a[k].is(E::mark(k)) {
             return false;
@@ -82,15 +84,10 @@ pub fn kept<E: Entry>(a: &[E], from: usize) -> bool
 pub fn holds<E: Entry>(a: &[E], upto: usize, x: E) -> bool
     ensures { Tells (Holds upto x a.now) result }
 {
-    if upto > a.len() {
-        return false;
+    match a.get(..upto) {
+        Some(part) => part.iter().all(|&y| y.is(x)),
+        None => false,
     }
-    for place in 0..upto {
-        if !a[place].is(x) {
-            return false;
-        }
-    }
-    true
 }
 
 // x up to a place, and marks from it on.
@@ -105,6 +102,13 @@ pub fn scratch<E: Entry>(a: &[E], upto: usize) -> bool
     ensures { Tells (Holds upto E.nought a.now × Marked E.marks upto a.now) result }
 {
     filled(a, upto, E::zero())
+}
+
+// The same of several buffers.
+pub fn all_scratch<E: Entry>(buffers: &[&[E]], upto: usize) -> bool
+    ensures { Tells (Each buffers.now (λ a. Holds upto E.nought a.now × Marked E.marks upto a.now)) result }
+{
+    buffers.iter().all(|a| scratch(a, upto))
 }
 
 // The entries that come next up to a place, and marks from it on.

@@ -47,12 +47,14 @@ pub fn name(names: &[&[u8]], kind: usize)
     }
 }
 
-// A case of a kind comes out otherwise than listed.
+// A case, or what else the list counts, comes out otherwise than listed.
 // Kept: the list's number of a kind, which `name` looks up.
-pub fn wrong(names: &[&[u8]], k: u64, kind: usize)
+pub fn wrong(what: &[u8], names: &[&[u8]], k: u64, kind: usize)
     ensures { Unit {0} }
 {
-    write_all(STDOUT, b"wrong: case ");
+    write_all(STDOUT, b"wrong: ");
+    write_all(STDOUT, what);
+    write_all(STDOUT, b" ");
     print_decimal(STDOUT, k);
     write_all(STDOUT, b", ");
     name(names, kind);

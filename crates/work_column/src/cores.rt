@@ -22,6 +22,7 @@ pub struct Scratch<'a> {
 
 // Column j, loaded in its room, loses its products; the count comes back with one more for each. next[k] goes one further for each column k that
 // has row j.
+// Kept: the count is handed on to `apply_reach`.
 pub fn work_column(t: &Tables, f: &Numbers, j: usize, w: &mut Scratch, count: u64) -> u64
     requires rows_laid { RowsLaid (laid t.now) (length t.now.tree.now) (length f.now.l_values.now) (length w.old.room.c.now) }
     requires diagonal_laid { DiagonalLaid t.now.sizes.now t.now.unit_starts.now t.now.d_starts.now (length t.now.tree.now) (length f.now.diag.now) (length f.now.d.now) }

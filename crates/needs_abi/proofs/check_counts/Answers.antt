@@ -5,13 +5,13 @@ use Rattle.tables.specs.Verdict.{stored_check}
 use Rattle.tables.proofs.CheckLaws.{stops, goes, blocks-stop, blocks-go, stored-stop, stored-go}
 use Rattle.needs_abi.proofs.check_counts.Goals as goal
 
-pub returns-then-blocks-gt4096-clause-says : goal.returns-then-blocks-gt4096-clause-says
-returns-then-blocks-gt4096-clause-says c = stops (stored_check _ ∷ []) (blocks-stop _ c.if-blocks-gt4096.true) refl
+pub returns-then-blocks-gt-MAX_BLOCKS-clause-says : goal.returns-then-blocks-gt-MAX_BLOCKS-clause-says
+returns-then-blocks-gt-MAX_BLOCKS-clause-says c = stops (stored_check _ ∷ []) (blocks-stop _ c.if-blocks-gt-MAX_BLOCKS.true) refl
 
-pub returns-then-stored-gt65536-clause-says : goal.returns-then-stored-gt65536-clause-says
-returns-then-stored-gt65536-clause-says c =
-    stops [] (stored-stop _ c.if-stored-gt65536.true) refl ∙ goes (stored_check _ ∷ []) (blocks-go _ c.if-blocks-gt4096.false)
+pub returns-then-stored-gt-MAX_STORED-clause-says : goal.returns-then-stored-gt-MAX_STORED-clause-says
+returns-then-stored-gt-MAX_STORED-clause-says c =
+    stops [] (stored-stop _ c.if-stored-gt-MAX_STORED.true) refl ∙ goes (stored_check _ ∷ []) (blocks-go _ c.if-blocks-gt-MAX_BLOCKS.false)
 
 pub returns-clause-says : goal.returns-clause-says
 returns-clause-says c =
-    goes [] (stored-go _ c.if-stored-gt65536.false) ∙ goes (stored_check _ ∷ []) (blocks-go _ c.if-blocks-gt4096.false)
+    goes [] (stored-go _ c.if-stored-gt-MAX_STORED.false) ∙ goes (stored_check _ ∷ []) (blocks-go _ c.if-blocks-gt-MAX_BLOCKS.false)

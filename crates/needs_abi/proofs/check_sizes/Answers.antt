@@ -17,21 +17,21 @@ module _ (dims : List ℕ) (stored : ℕ) where
   past-dims : length dims ≤ 4096 → None ≡ fault (dim_ok dims) 0 (length dims) → verdict (stored_check stored ∷ []) ≡ sizes_verdict dims stored
   past-dims few e = goes (stored_check stored ∷ []) (dims-go _ e) ∙ past-blocks few
 
-pub returns-then-dims-gt4096-clause-says : goal.returns-then-dims-gt4096-clause-says
-returns-then-dims-gt4096-clause-says c =
-    stops (dims_check c.args.dims.now ∷ stored_check c.args.stored ∷ []) (blocks-stop _ c.if-dims-gt4096.true) refl
+pub returns-then-dims-gt-MAX_BLOCKS-clause-says : goal.returns-then-dims-gt-MAX_BLOCKS-clause-says
+returns-then-dims-gt-MAX_BLOCKS-clause-says c =
+    stops (dims_check c.args.dims.now ∷ stored_check c.args.stored ∷ []) (blocks-stop _ c.if-dims-gt-MAX_BLOCKS.true) refl
 
 pub returns-in-Some-clause-says : goal.returns-in-Some-clause-says
 returns-in-Some-clause-says c =
-    stops (stored_check c.args.stored ∷ []) (dims-stop _ _ c.in-Some.ensures) refl ∙ past-blocks c.args.dims.now c.args.stored c.if-dims-gt4096.false
+    stops (stored_check c.args.stored ∷ []) (dims-stop _ _ c.in-Some.ensures) refl ∙ past-blocks c.args.dims.now c.args.stored c.if-dims-gt-MAX_BLOCKS.false
 
-pub returns-then-stored-gt65536-clause-says : goal.returns-then-stored-gt65536-clause-says
-returns-then-stored-gt65536-clause-says c =
-    stops [] (stored-stop _ c.if-stored-gt65536.true) refl ∙ past-dims c.args.dims.now c.args.stored c.if-dims-gt4096.false c.in_default.ensures
+pub returns-then-stored-gt-MAX_STORED-clause-says : goal.returns-then-stored-gt-MAX_STORED-clause-says
+returns-then-stored-gt-MAX_STORED-clause-says c =
+    stops [] (stored-stop _ c.if-stored-gt-MAX_STORED.true) refl ∙ past-dims c.args.dims.now c.args.stored c.if-dims-gt-MAX_BLOCKS.false c.in_default.ensures
 
 pub returns-clause-says : goal.returns-clause-says
 returns-clause-says c =
-    goes [] (stored-go _ c.if-stored-gt65536.false) ∙ past-dims c.args.dims.now c.args.stored c.if-dims-gt4096.false c.in_default.ensures
+    goes [] (stored-go _ c.if-stored-gt-MAX_STORED.false) ∙ past-dims c.args.dims.now c.args.stored c.if-dims-gt-MAX_BLOCKS.false c.in_default.ensures
 
 pub returns-clause-fits : goal.returns-clause-fits
-returns-clause-fits c = (sizes-of c.args.dims.now c.in_default.ensures, c.if-dims-gt4096.false, c.if-stored-gt65536.false)
+returns-clause-fits c = (sizes-of c.args.dims.now c.in_default.ensures, c.if-dims-gt-MAX_BLOCKS.false, c.if-stored-gt-MAX_STORED.false)

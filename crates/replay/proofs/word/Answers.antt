@@ -1,11 +1,13 @@
--- `replay::word` meets its contract: within the words it reads two fours of bytes, past them 0. Assumes nothing.
-use Rattle.replay.proofs.Laws.{word_in, word_out}
+-- `replay::word` meets its contract: within the words it reads eight bytes, past them 0. Assumes nothing.
+use mathlib.Core.Path.{refl}
+use borrow.Author.Tests.{lt-ltb, le-ltb}
+use Rattle.replay.specs.Words.{word_at}
 use Rattle.replay.proofs.word.Goals as goal
 
 pub returns-then-at-w : goal.returns-then-at-w
-returns-then-at-w c =
-    let x = c.args in
-    word_in x.w.now x.at _ _ c.if-at-w.true c.four.ensures.0 c.four-then-at-w.ensures.0
+unfolding word_at
+returns-then-at-w c = rw (lt-ltb _ _ c.if-at-w.true) c.u64_at.ensures
 
-pub returns : goal.returns
-returns c = word_out _ _ c.if-at-w.false
+pub returns-else-at-w : goal.returns-else-at-w
+unfolding word_at
+returns-else-at-w c = rw (le-ltb _ _ c.if-at-w.false) refl

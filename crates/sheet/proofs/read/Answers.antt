@@ -3,7 +3,7 @@ use Rattle.sheet.proofs.Laws.{kept, within-room}
 use Rattle.sheet.proofs.read.Goals as goal
 
 pub keep-requires : goal.keep-requires
-keep-requires c = record { kept = kept _ _ c.in_ok-night.ensures }
+keep-requires c = kept _ _ c.in_ok-night.ensures
 
 pub returns-clause-fits : goal.returns-clause-fits
 returns-clause-fits c = within-room _ _ c.in_ok-night.ensures

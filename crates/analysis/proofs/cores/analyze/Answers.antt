@@ -28,7 +28,7 @@ count_l-counts-requires-clause-pattern c =
     let e : length (take n w.heads.now) ≡ n = length-take-le n w.heads.now long in
     let sound = c.requires.plan_sound in
     let u = call.ensures.upper_of.0 in
-    let there = (moved-permutes a.perm.now a.late.now n sound.permutes).entries in (
+    let there = (moved-permutes a.perm.now a.late.now n sound.permutes).entries in rw c.split_at_mut-rows.ensures.front (
       subst (λ (m : ℕ). Pattern m w.into.now upper) (sym e) (pattern-of n links w.into.now upper sound.blocks u),
       subst (λ (m : ℕ). Ascends m w.into.now upper) (sym e) (ascends-of n links w.into.now upper sound.blocks u),
       subst (Sized (length (take n w.heads.now))) (sym call.ensures.sizes_after)
@@ -52,7 +52,7 @@ returns-clause-ready c =
     let tree = counts.new.tree in
     let count = counts.new.count in
     let u = call.ensures.upper_of.0 in
-    let over : Analyzed n (linked_up into upper) w.sizes.now tree count counts.result = subst (λ (m : ℕ). Analyzed m (linked_up into upper) w.sizes.now tree count counts.result) e counts.ensures in
+    let over : Analyzed n (linked_up into upper) w.sizes.now tree count counts.result = subst (λ (m : ℕ). Analyzed m (linked_up into upper) w.sizes.now tree count counts.result) e (rw c.split_at_mut-rows.ensures.front at counts.ensures) in
     let night : Analyzed n links w.sizes.now tree count counts.result = said n links into upper c.requires.plan_sound.blocks u symm w.sizes.now tree count counts.result over in
     record {
       listed = search rules;

@@ -1,5 +1,5 @@
 -- `analysis::cores::count_l` meets its contract: Liu's tree, the counts over it, their totals. Assumes nothing.
-use Rattle.std.specs.Prelude.{◌≡◌, ℕ, length, take}
+use Rattle.std.specs.Prelude.{◌≡◌, ℕ, length}
 use mathlib.Core.Path.{sym, ap, subst, ◌∙◌}
 use native.Mathlib.Omega.{arith}
 use Rattle.elimination_tree.specs.Tree.{linked_up}
@@ -15,16 +15,16 @@ counts-numbers-requires c =
     let n = length c.args.tree.now in
     let e : length tree.new.parent ≡ n = tree.auto.parent in record {
       tree = (
-        subst (λ (m : ℕ). Tree m c.args.starts.now (take c.args.entries c.args.upper.now) tree.new.parent) (sym e) (record { pattern = c.requires.pattern.0; ascends = c.requires.pattern.1; liu = tree.ensures }),
+        subst (λ (m : ℕ). Tree m c.args.starts.now c.args.rows.now tree.new.parent) (sym e) (record { pattern = c.requires.pattern.0; ascends = c.requires.pattern.1; liu = tree.ensures }),
         subst (λ (m : ℕ). Sized m c.args.sizes.now) (sym e) c.requires.pattern.2,
       );
       stamp_len = (tree.auto.ancestor ∙ c.requires.stamps_len.0 ∙ sym e, c.requires.stamps_len.1 ∙ sym e);
     }
 
-pub add_up-all-requires : goal.add_up-all-requires
-add_up-all-requires c =
+pub add_up-stored-requires : goal.add_up-stored-requires
+add_up-stored-requires c =
     let starts = c.args.starts.now in
-    let rows = take c.args.entries c.args.upper.now in
+    let rows = c.args.rows.now in
     let n = length c.args.tree.now in
     let call = c.counts-numbers in
     let count = call.new.count in
@@ -35,18 +35,18 @@ add_up-all-requires c =
 pub returns : goal.returns
 returns c =
     let starts = c.args.starts.now in
-    let rows = take c.args.entries c.args.upper.now in
+    let rows = c.args.rows.now in
     let n = length c.args.tree.now in
     let tree = c.new_core in
     let call = c.counts-numbers in
-    let all = c.add_up-all in
+    let all = c.add_up-stored in
     let count = call.new.count in
     let blocks : length tree.new.parent ≡ n = tree.auto.parent in
     let e : count ≡ lengths (columns_of starts rows n) = call.ensures.count_after ∙ ap (λ (m : ℕ). lengths (columns_of starts rows m)) blocks in
     record {
       parents = tree.ensures;
       counted = e;
-      stored = total-stored (linked_up starts rows) n count e all.result.stored all.ensures.stored_value;
+      stored = total-stored (linked_up starts rows) n count e all.result.0 all.ensures.stored_value;
       numbers = call.ensures.value ∙ ap (λ (m : ℕ). numbers_of (linked_up starts rows) m c.args.sizes.now) blocks;
-      products = total-products (linked_up starts rows) n count e all.result.products all.ensures.products_value;
+      products = total-products (linked_up starts rows) n count e all.result.1 all.ensures.products_value;
     }

@@ -7,7 +7,7 @@ use Rattle.columns.proofs.cores.first_in_columns.Goals as goal
 
 pub returns-then-is_some : goal.returns-then-is_some
 returns-then-is_some g c m test o says =
-    column-found o test c.loop-j.j c.first-found.result c.loop-j-test.true (λ i l. says i None (omega (arith, c.loop-j-test.true)) (c.loop-j.invariant i l)) (says c.loop-j.j c.first-found.result c.loop-j-test.true (rw (← c.wide.ensures, ← c.wide-in-loop-j.ensures) c.first-found.ensures)) (sym c.is_some.ensures ∙ c.if-is_some.true)
+    column-found o test c.loop-j.j c.first-found.result c.loop-j-test.true (λ i l. says i None (omega (arith, c.loop-j-test.true)) (c.loop-j.invariant i l)) (says c.loop-j.j c.first-found.result c.loop-j-test.true (c.first-found.ensures)) (sym c.is_some.ensures ∙ c.if-is_some.true)
 
 pub returns : goal.returns
 returns g c m test o says = none-found o test (λ i l. says i None l (c.loop-j.invariant i (omega arith)))

@@ -25,7 +25,7 @@ area s j = block_area s.args.dims.now s.args.rows.now (at s.args.dims.now j)
 
 -- what the sum over column j is
 found : (c : goal.After-column_area-s) → let j = c.loop-j.j in c.column_area-s.result ≡ sum (area c j) (at c.args.starts.now j) (at c.args.starts.now (j + 1))
-found c = rw (← c.wide-d.ensures, ← c.wide-lo.ensures, ← c.wide-hi.ensures) c.column_area-s.ensures
+found c = c.column_area-s.ensures
 
 pub overflow_add-s : goal.overflow_add-s
 overflow_add-s c =

@@ -5,12 +5,12 @@ use Rattle.contents.proofs.cores.column_ok.Goals as goal
 
 pub returns-then-n-x : goal.returns-then-n-x
 unfolding column_fits
-returns-then-n-x c = rw (← c.wide-x.ensures, le-ltb _ _ c.if-n-x.true)
+returns-then-n-x c = rw (le-ltb _ _ c.if-n-x.true)
 
 pub returns-then-p-eq0 : goal.returns-then-p-eq0
 unfolding column_fits
-returns-then-p-eq0 c = rw (← c.wide-x.ensures, lt-ltb _ _ c.if-n-x.false, eq-eqb _ _ c.if-p-eq0.true)
+returns-then-p-eq0 c = rw (lt-ltb _ _ c.if-n-x.false, eq-eqb _ _ c.if-p-eq0.true)
 
 pub returns : goal.returns
 unfolding column_fits
-returns c = rw (← c.wide-x.ensures, ← c.wide.ensures, lt-ltb _ _ c.if-n-x.false, ne_eqb _ _ c.if-p-eq0.false)
+returns c = rw (lt-ltb _ _ c.if-n-x.false, ne_eqb _ _ c.if-p-eq0.false)

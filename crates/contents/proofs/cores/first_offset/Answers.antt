@@ -4,7 +4,7 @@ use Rattle.std.specs.Prelude.{◌≡◌, ℕ, ◌+◌, ◌*◌, ◌<◌, ◌≤�
 use Prim.Native.Nat.{zero-le}
 use mathlib.Core.Path.{sym, ◌∙◌, ap}
 use native.Mathlib.Omega.{arith}
-use Rattle.tables.specs.Verdict.{at, area_at, block_area}
+use Rattle.tables.specs.Verdict.{at, area_at}
 use borrow.Author.Count.{below_more}
 use Rattle.tables.proofs.FaultLaws.{fault-here, fault-none}
 use Rattle.scalars.proofs.BodyLaws.{offset-first, offset-next}
@@ -15,45 +15,31 @@ use Rattle.contents.proofs.cores.first_offset.Goals as goal
 pub loop-p-init : goal.loop-p-init
 loop-p-init c = ((λ k h. absurd (omega arith)), sym (offset-first c.args.dims.now _ c.args.rows.now), zero-le)
 
--- the sum so far is small
-small : (c : goal.After-wide) → c.loop-p.sum ≤ 4294967296
-small c = let t = c.requires.0 in omega (arith, c.loop-p.invariant.2, t.as_offsets, t.few)
-
 pub overflow_mul-sum : goal.overflow_mul-sum
-overflow_mul-sum c = omega (arith, small c)
+overflow_mul-sum c = let t = c.requires.0 in omega (arith, c.loop-p.invariant.2, t.as_offsets, t.few)
 
 pub overflow_add-bodies : goal.overflow_add-bodies
-overflow_add-bodies c = omega (arith, small c, c.requires.1)
+overflow_add-bodies c = let t = c.requires.0 in omega (arith, c.loop-p.invariant.2, t.as_offsets, t.few, c.requires.1)
 
-pub returns-then-wide-bodies : goal.returns-then-wide-bodies
-returns-then-wide-bodies c =
+pub returns-then-offset-bodies : goal.returns-then-offset-bodies
+returns-then-offset-bodies c =
     let l = c.loop-p in
     let x = c.args in
     fault-here _ 0 _ _ zero-le (omega arith) (λ k _ h. l.invariant.0 k h)
-    (offset-misses x.dims.now x.rows.now x.columns.now x.offsets.now x.bodies l.p (λ e. c.if-wide-bodies.true (c.wide.ensures ∙ e ∙ ap (λ (s : ℕ). x.bodies + 8 * s) (sym l.invariant.1))))
+    (offset-misses x.dims.now x.rows.now x.columns.now x.offsets.now x.bodies l.p (λ e. c.if-offset-bodies.true (e ∙ ap (λ (s : ℕ). x.bodies + 8 * s) (sym l.invariant.1))))
 
 pub bounds-columns-p : goal.bounds-columns-p
 bounds-columns-p c = omega (arith, c.requires.0.as_offsets)
 
--- the entry's column is a block
-column-below : (c : goal.After-wide-j) → c.wide-j.result < length c.args.dims.now
-column-below c =
-    let t = c.requires.0 in
-    let p = c.loop-p.p in
-    omega (arith, c.wide-j.ensures, t.sorted.below p (omega (arith, t.as_offsets)))
-
-pub offset_bounds-dims-j : goal.offset_bounds-dims-j
-offset_bounds-dims-j c = omega (arith, column-below c)
-
 pub bounds-dims-j : goal.bounds-dims-j
-bounds-dims-j c = let t = c.requires.0 in omega (arith, c.wide-j.ensures, t.sorted.below c.loop-p.p (omega (arith, t.as_offsets)))
+bounds-dims-j c = let t = c.requires.0 in omega (arith, t.sorted.below c.loop-p.p (omega (arith, t.as_offsets)))
 
 pub block_area-sum-requires : goal.block_area-sum-requires
 block_area-sum-requires c =
     let t = c.requires.0 in
     let p = c.loop-p.p in
     let in' : p < length c.args.rows.now = omega (arith, t.as_offsets, t.as_rows) in
-    (t.sizes, omega (arith, c.wide-in-loop-p.ensures, t.sizes.small c.wide-j.result), in', t.below p in')
+    (t.sizes, omega (arith, t.sizes.small (at c.args.columns.now p)), in', t.below p in')
 
 -- the area that is added
 added : (c : goal.After-block_area-sum) → let x = c.args in c.block_area-sum.result ≡ area_at x.dims.now (starts_from x.columns.now (length x.dims.now)) x.rows.now c.loop-p.p
@@ -61,8 +47,7 @@ added c =
     let x = c.args in
     let t = c.requires.0 in
     let p = c.loop-p.p in
-    let d : c.wide-in-loop-p.result ≡ at x.dims.now (at x.columns.now p) = c.wide-in-loop-p.ensures ∙ ap (at x.dims.now) c.wide-j.ensures in
-    c.block_area-sum.ensures ∙ ap (λ (w : ℕ). block_area x.dims.now x.rows.now w p) d ∙ sym (area-is t p (omega (arith, t.as_offsets)))
+    c.block_area-sum.ensures ∙ sym (area-is t p (omega (arith, t.as_offsets)))
 
 bounded : (c : goal.After-block_area-sum) → c.block_area-sum.result ≤ 256
 bounded c = let t = c.requires.0 in omega (arith, added c, area_small t c.loop-p.p (omega (arith, t.as_offsets)))
@@ -73,9 +58,8 @@ overflow_add-sum c = let t = c.requires.0 in omega (arith, bounded c, c.loop-p.i
 pub loop-p-preserved : goal.loop-p-preserved
 loop-p-preserved c =
     let l = c.loop-p in
-    let x = c.args in
-    let w = c.wide in (
-      below_more _ _ l.invariant.0 (offset-hits x.dims.now x.rows.now x.columns.now x.offsets.now x.bodies l.p (sym w.ensures ∙ c.if-wide-bodies.false ∙ ap (λ (s : ℕ). x.bodies + 8 * s) l.invariant.1)),
+    let x = c.args in (
+      below_more _ _ l.invariant.0 (offset-hits x.dims.now x.rows.now x.columns.now x.offsets.now x.bodies l.p (c.if-offset-bodies.false ∙ ap (λ (s : ℕ). x.bodies + 8 * s) l.invariant.1)),
       omega (arith, added c, l.invariant.1, offset-next x.dims.now (starts_from x.columns.now (length x.dims.now)) x.rows.now l.p),
       omega (arith, bounded c, l.invariant.2),
     )

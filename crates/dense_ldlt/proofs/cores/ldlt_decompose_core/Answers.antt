@@ -40,8 +40,8 @@ loop-j-preserved c =
       search rules,
       omega (arith, c.store.auto.m, c.divide_row-x.auto.a),
       search rules,
-      rw c.count-p.ensures (le_trans (rank-grows _ _) (omega arith)),
-      rw (c.count-p.ensures, c.loop-j.invariant.4, more) (account-more (take j before) j _ (length-take-le j before (omega arith))),
+      rw c.counted-p.ensures (le_trans (rank-grows _ _) (omega arith)),
+      rw (c.counted-p.ensures, c.loop-j.invariant.4, more) (account-more (take j before) j _ (length-take-le j before (omega arith))),
       rw more
           (steps_next _ _ _ _ _ c.loop-j.invariant.5
           (rw (c.store.ensures, c.kept_of-kept.ensures)
@@ -55,5 +55,5 @@ returns c =
     let d = c.loop-j.d in
     let j = c.loop-j.j in
     let whole : take j d ≡ d = take_all j d (omega arith) in
-    rw (c.result_of.ensures, c.clear_upper.ensures, account-all _ _ _ x.n (rw whole at c.loop-j.invariant.4) (search rules) (search rules))
+    rw (c.recorded.ensures, c.clear_upper.ensures, account-all _ _ _ x.n (rw whole at c.loop-j.invariant.4) (search rules) (search rules))
     (ap (finish x.n x.tol) (steps_all _ _ x.n _ _ (rw whole at c.loop-j.invariant.5) (search rules) (search rules)))

@@ -4,4 +4,4 @@ use Rattle.digits.proofs.Laws.{spelt}
 use Rattle.digits.proofs.cores.spell.Given as goal
 
 abbrev pub invariant-loop-i : goal.invariant-loop-i
-invariant-loop-i l = (length l.out ≡ length l.initial.out) × (spelt l.at l.base l.out l.i l.rest ≡ spelt l.at l.base l.initial.out l.k l.n)
+invariant-loop-i l = (length l.out ≡ length l.initial.out) × (spelt l.base l.out l.i l.rest ≡ spelt l.base l.initial.out (length l.initial.out) l.n)

@@ -1,6 +1,6 @@
 -- `elimination_tree::cores::climb` meets its contract. The invariant is `Walking`, and each answer names the law for its way. Assumes nothing.
-use Rattle.std.specs.Prelude.{◌<◌, length}
 use mathlib.Core.Path.{◌∙◌}
+use Rattle.std.specs.Prelude.{length, ◌<◌}
 use native.Mathlib.Omega.{arith}
 use lib.ListN.{length-set}
 use Rattle.elimination_tree.proofs.Turns.{begins, turns, further, roots, ends, climbs-set}

@@ -2,5 +2,5 @@
 use Rattle.elimination_tree.proofs.Turns.{Scanning}
 use Rattle.elimination_tree.proofs.cores.column.Given as goal
 
-abbrev pub invariant-loop-q : goal.invariant-loop-q
-invariant-loop-q l = Scanning l.j l.rows l.from l.to l.initial.parent l.initial.ancestor l.parent l.ancestor l.q
+abbrev pub invariant-loop-i : goal.invariant-loop-i
+invariant-loop-i l = Scanning l.j l.rows l.initial.parent l.initial.ancestor l.parent l.ancestor l.i-index

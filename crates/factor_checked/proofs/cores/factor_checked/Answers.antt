@@ -15,8 +15,8 @@ pub kept_bound-most-requires : goal.kept_bound-most-requires
 kept_bound-most-requires c =
     record { scale_bound = c.requires; late_len_bound = few-handed-in (handed c.args.s.now) (system-sound _ _ _ _ _ _ _ (ap refuses (sym c.in_ok-check_system.ensures))) }
 
-pub lent_core-requires : goal.lent_core-requires
-lent_core-requires c = system-sound _ _ _ _ _ _ _ (ap refuses (sym c.in_ok-check_system.ensures))
+pub invariant_of-passed : goal.invariant_of-passed
+invariant_of-passed c = record { accepted = ap refuses (sym c.in_ok-check_system.ensures) }
 
 pub returns-clause-kept : goal.returns-clause-kept
 returns-clause-kept c =

@@ -1,8 +1,10 @@
 -- `factor_cleared::cores::factored_core` meets its contract. Assumes nothing.
 use Rattle.std.specs.Prelude.{length}
+use Rattle.factor_setup.proofs.SetupLaws.{sound}
 use Rattle.factor_setup.specs.Exact.{handed}
 use Rattle.factor_core.specs.Factorize.{lent_in}
-use Rattle.factor_cleared.proofs.CoreLaws.{zero_of, noughts-of, kept}
+use Rattle.scratch.proofs.Laws.{zero_of}
+use Rattle.factor_cleared.proofs.CoreLaws.{noughts-of, kept}
 use Rattle.factor_cleared.proofs.cores.factored_core.Goals as goal
 
 pub returns-clause-kept : goal.returns-clause-kept
@@ -10,7 +12,7 @@ returns-clause-kept c =
     let fit = c.fit-r in
     let zero = c.clear_plan.ensures.cleared in
     let work = c.clear_work.ensures in
-    kept c.args.most (handed c.args.s.now) c.requires.system_sound (lent_in c.args.o.now c.args.p.now c.args.w.now) (lent_in fit.new.o fit.new.p fit.new.w) (lent_in fit.new.o c.clear_plan.new.w c.clear_work.new.w) c.args.cache.now fit.new.cache fit.result c.requires.exact fit.ensures.written
+    kept c.args.most (handed c.args.s.now.system) (sound c.args.s.now) (lent_in c.args.o.now c.args.p.now c.args.w.now) (lent_in fit.new.o fit.new.p fit.new.w) (lent_in fit.new.o c.clear_plan.new.w c.clear_work.new.w) c.args.cache.now fit.new.cache fit.result c.requires.exact fit.ensures.written
     (record {
       column = noughts-of {n = length c.args.w.now.column.now} work.column_after fit.ensures.work.column.1;
       inverse = zero_of {n = length c.args.p.now.inverse.now} zero.inverse fit.ensures.scratch.inverse.1;

@@ -6,6 +6,7 @@ use lib.Ieee.{Float}
 use lib.ListN.{length-replicate}
 use borrow.Author.Rules.{rules}
 use Rattle.scalar.specs.Block.{zeros}
+use Rattle.factor_setup.proofs.SetupLaws.{sound}
 use Rattle.factor_setup.specs.Exact.{handed}
 use Rattle.factor_tables.proofs.NeedLaws.{few-work}
 use Rattle.factor_numbers.proofs.ExactLaws.{source, laid, diagonal, grown, begun, unstamped, ends}
@@ -14,8 +15,8 @@ use Rattle.factor_numbers.proofs.cores.write_numbers.Goals as goal
 pub factor_columns-r-requires : goal.factor_columns-r-requires
 factor_columns-r-requires c =
     let x = c.args in
-    let a = handed x.s.now in
-    let sound = c.requires.system_sound in
+    let a = handed x.s.now.system in
+    let sound = sound c.args.s.now in
     let listed = c.requires.upper_of in
     let tabled = c.requires.tabled in
     let room = c.requires.number_room in
@@ -44,13 +45,13 @@ through p q = p ∙ q
 pub returns : goal.returns
 returns c =
     let x = c.args in
-    let a = handed x.s.now in
+    let a = handed x.s.now.system in
     let room = c.requires.number_room in
     let call = c.factor_columns-r in
     let f = call.new.f in
     let same = call.ensures.numbers in
     let left =
-    ends a c.requires.system_sound x.into.now x.upper.now x.tree.now x.order.now x.l_starts.now x.l_rows.now x.l_offsets.now x.sizes.now x.bodies.now x.unit_starts.now x.d_starts.now x.next.now x.stamps.now c.requires.upper_of.0 c.requires.upper_of.1 c.requires.tabled
+    ends a (sound c.args.s.now) x.into.now x.upper.now x.tree.now x.order.now x.l_starts.now x.l_rows.now x.l_offsets.now x.sizes.now x.bodies.now x.unit_starts.now x.d_starts.now x.next.now x.stamps.now c.requires.upper_of.0 c.requires.upper_of.1 c.requires.tabled
     f.l_values.now f.diag.now f.d.now (same.l_values.1 ∙ room.of_values) (same.diag.1 ∙ room.of_diag) (same.d.1 ∙ room.of_d) f.cache.now call.result call.ensures.runs in
     record {
       result_value = left.outcome;

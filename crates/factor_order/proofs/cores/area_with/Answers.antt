@@ -14,13 +14,13 @@ pub sizes-requires : goal.sizes-requires
 sizes-requires c =
     let s = c.requires in
     let a = c.args in
-    rw c.move_late.ensures (moved-below a.dims.now a.perm.now a.late.now s.dims_len_bound.2)
+    rw c.move_late.ensures (moved-below a.night.now.dims.now a.night.now.perm.now a.night.now.late.now s.dims_len_bound.2)
 
 pub total_area-requires : goal.total_area-requires
 total_area-requires c =
     let s = c.requires in
     let a = c.args in
-    rw (c.sizes.ensures, c.move_late.ensures) (measured-under a.dims.now (moved a.perm.now a.late.now) a.l_starts.now a.l_rows.now s.dims_len_bound.0 s.dims_len_bound.1 (moved-permutes a.perm.now a.late.now (length a.dims.now) s.dims_len_bound.2) s.columns.0)
+    rw (c.sizes.ensures, c.move_late.ensures) (measured-under a.night.now.dims.now (moved a.night.now.perm.now a.night.now.late.now) a.factor.now.l_starts.now a.factor.now.l_rows.now s.dims_len_bound.0 s.dims_len_bound.1 (moved-permutes a.night.now.perm.now a.night.now.late.now (length a.night.now.dims.now) s.dims_len_bound.2) s.columns.0)
 
 pub returns : goal.returns
 returns c = rw (c.sizes.ensures, c.move_late.ensures) at c.total_area.ensures

@@ -4,7 +4,7 @@ use Rattle.factor_order.proofs.OffsetLaws.{Agree}
 use Rattle.factor_order.proofs.cores.offsets_are.Given as goal
 
 abbrev pub invariant-loop-p : goal.invariant-loop-p
-invariant-loop-p l = Agree l.dims l.order l.l_starts l.l_rows l.l_offsets l.p l.sum
+invariant-loop-p l = Agree l.dims l.factor.order.now l.factor.l_starts.now l.factor.l_rows.now l.factor.l_offsets.now l.p l.sum
 
 abbrev pub invariant-loop-j : goal.invariant-loop-j
-invariant-loop-j l = Agree l.dims l.order l.l_starts l.l_rows l.l_offsets (at l.l_starts l.j) l.sum
+invariant-loop-j l = Agree l.dims l.factor.order.now l.factor.l_starts.now l.factor.l_rows.now l.factor.l_offsets.now (at l.factor.l_starts.now l.j) l.sum

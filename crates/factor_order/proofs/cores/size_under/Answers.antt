@@ -10,16 +10,16 @@ pub offset_bounds-dims-old : goal.offset_bounds-dims-old
 offset_bounds-dims-old c =
     let s = c.requires in
     let a = c.args in
-    omega (arith, c.wide-old.ensures, below_at (length a.dims.now) a.order.now s.0 a.k s.1)
+    omega (arith, below_at (length a.dims.now) a.order.now s.0 a.k s.1)
 
 pub bounds-dims-old : goal.bounds-dims-old
 bounds-dims-old c =
     let s = c.requires in
     let a = c.args in
-    omega (arith, c.wide-old.ensures, below_at (length a.dims.now) a.order.now s.0 a.k s.1)
+    omega (arith, below_at (length a.dims.now) a.order.now s.0 a.k s.1)
 
 pub returns : goal.returns
 returns c =
     let s = c.requires in
     let a = c.args in
-    rw c.wide-old.ensures at c.wide.ensures ∙ sym (sizes-at a.dims.now a.order.now a.k (omega (arith, s.0.entries, s.1)))
+    sym (sizes-at a.dims.now a.order.now a.k (omega (arith, s.0.entries, s.1)))

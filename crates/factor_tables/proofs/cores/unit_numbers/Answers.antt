@@ -4,7 +4,7 @@ use mathlib.Core.Path.{sym, ap, ◌∙◌}
 use native.Mathlib.Omega.{arith}
 use Rattle.buckets.specs.Buckets.{before}
 use Rattle.buckets.proofs.Turns.{before-next}
-use Rattle.scalars.proofs.ScalarLaws.{nothing-before}
+use Rattle.buckets.proofs.Laws.{nothing-before}
 use Rattle.layout.specs.Layout.{squares}
 use Rattle.layout.proofs.DiagonalLaws.{length-squares, squares-at}
 use Rattle.factor_tables.proofs.NeedLaws.{area_small, before-most}

@@ -7,7 +7,7 @@ use Rattle.factor_tables.proofs.cores.work_numbers.Goals as goal
 
 -- what the two calls give is the returns
 pub returns : goal.returns
-returns c = ap₂ ◌*◌ c.scalars.ensures c.widest_of.ensures
+returns c = ap₂ ◌*◌ c.scalar_count.ensures c.widest_of.ensures
 
 pub overflow_mul-result : goal.overflow_mul-result
 overflow_mul-result c = omega (arith, returns c, few-work c.args.dims.now c.requires.0 c.requires.1)

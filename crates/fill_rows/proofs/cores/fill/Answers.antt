@@ -26,8 +26,8 @@ loop-j-init c =
     let two = c.copy in
     let three = c.link in
     let n = length c.args.t.now.parent.now in (
-      fill_begins c.args.t.now.starts.now c.args.t.now.rows.now n c.args.t.now.parent.now c.args.l_starts.now three.new.onward one.new.s two.new.to c.args.l_rows.now c.requires.tree three.ensures
-          (one.ensures ∙ ap (λ (m : ℕ). replicate m 0) c.requires.stamp_len.0) c.requires.laid (two.ensures ∙ ap (λ (m : ℕ). take m c.args.l_starts.now) c.requires.stamp_len.2),
+      fill_begins c.args.t.now.starts.now c.args.t.now.rows.now n c.args.t.now.parent.now c.args.l_starts.now three.new.onward one.new.self two.new.to c.args.l_rows.now c.requires.tree three.ensures
+          (one.ensures.after (λ y h. h) ∙ ap (λ (m : ℕ). replicate m 0) c.requires.stamp_len.0) c.requires.laid (two.ensures ∙ ap (λ (m : ℕ). take m c.args.l_starts.now) c.requires.stamp_len.2),
       refl,
       refl,
     )
@@ -53,20 +53,8 @@ marked c =
 pub overflow_cast-at : goal.overflow_cast-at
 overflow_cast-at c = omega (arith, marked c)
 
-pub offset_bounds-stamp-at : goal.offset_bounds-stamp-at
-offset_bounds-stamp-at c = omega (arith, marked c)
-
 pub bounds-stamp-at : goal.bounds-stamp-at
 bounds-stamp-at c = omega (arith, marked c, c.loop-j.invariant.0.stamps)
-
-pub slice_bounds-store_climbs-count : goal.slice_bounds-store_climbs-count
-slice_bounds-store_climbs-count c = c.loop-j.invariant.0.tree.pattern.rising c.loop-j.j c.loop-j-test.true
-
-pub slice_bounds-store_climbs-start : goal.slice_bounds-store_climbs-start
-slice_bounds-store_climbs-start c = c.loop-j.invariant.0.tree.pattern.rising c.loop-j.j c.loop-j-test.true
-
-pub slice_bounds-store_climbs-end : goal.slice_bounds-store_climbs-end
-slice_bounds-store_climbs-end c = c.loop-j.invariant.0.tree.pattern.inside (c.loop-j.j + 1) (omega (arith, c.loop-j-test.true))
 
 pub store_climbs-requires : goal.store_climbs-requires
 store_climbs-requires c =

@@ -3,7 +3,7 @@ use Rattle.std.specs.Prelude.{◌-◌}
 use mathlib.Core.Path.{refl}
 use native.Mathlib.Omega.{arith}
 use Rattle.reach.specs.Reach.{none}
-use Rattle.symbolic.proofs.Climbs.{goes-up}
+use Rattle.symbolic.proofs.Climbs.{goes_up}
 use Rattle.fill_rows.proofs.Onward.{link-begins, link-turns, link-ends}
 use Rattle.fill_rows.proofs.cores.link.Goals as goal
 
@@ -26,7 +26,7 @@ top-requires c =
     let v = c.loop-k in (
       c.requires.0,
       c.requires.1,
-      (goes-up c.args.parent.now (v.k - 1) c.requires.0 (omega (arith, v.invariant.inside, c.loop-k-test.true)) c.if-up.false).1,
+      (goes_up c.args.parent.now (v.k - 1) c.requires.0 (omega (arith, v.invariant.inside, c.loop-k-test.true)) c.if-up.false).1,
       v.invariant.places,
     )
 

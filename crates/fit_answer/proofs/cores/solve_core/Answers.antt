@@ -5,7 +5,7 @@ use native.Mathlib.Omega.{arith}
 use lib.Seq.{take_at}
 use Rattle.refusal.specs.Refusal.{Told}
 use Rattle.factor_setup.specs.Exact.{handed}
-use Rattle.render.specs.Lines.{refused_line, answer_text}
+use Rattle.render.specs.Lines.{answer_text}
 use Rattle.render.specs.Rendered.{told, Renders, text_verdict}
 use Rattle.fit_answer.specs.Fit.{night_text}
 use Rattle.fit_answer.proofs.Laws.{part, fit-refuses, night-refused, night-accepted, renders-as, answer-renders}
@@ -23,7 +23,7 @@ returns-in-Ok c =
     let solution = c.night_core.new.x in
     let marks = c.night_core.new.marks in
     let room : List ℕ = replicate 512 0 in
-    let few : k ≤ 512 = omega (arith, c.requires.x_len, c.requires.tol_value.3) in
+    let few : k ≤ 512 = omega (arith, c.requires.x_len, c.requires.within.scalars) in
     let long : length marks ≡ k = c.night_core.auto.marks ∙ sym (part 0 k 512 few) in
     let e : take k (marks ++ drop k room) ≡ marks = take_at marks (drop k room) k long in
     let lines = answer_text (length c.args.s.now.dims.now) y.stored y.products y.silent solution in
@@ -35,5 +35,4 @@ returns-in-Ok c =
 pub returns-in-Err : goal.returns-in-Err
 returns-in-Err c =
     let a = handed c.args.s.now in
-    renders-as (refused_line c.from.result) (night_text a c.args.x.now) c.args.out.now
-    (ap refused_line (c.from.ensures ∙ c.number.ensures) ∙ night-refused a c.args.x.now _ c.in-Err.ensures.outcome (fit-refuses c.in-Err.refusal)) _ _ c.refused.ensures
+    renders-as _ (night_text a c.args.x.now) c.args.out.now (night-refused a c.args.x.now _ c.in-Err.ensures.outcome (fit-refuses c.in-Err.refusal)) _ _ c.refused.ensures

@@ -1,11 +1,12 @@
 -- `marks::cores::mark_scalars` meets its contract: the invariants: the first scalars by new number are marked and counted (`UpTo`). Assumes nothing.
+use mir.Val.{bool_byte}
 use mathlib.Core.Path.{sym, ap, ◌∙◌}
 use native.Mathlib.Omega.{arith}
 use borrow.Author.Rules.{rules}
 use Rattle.order.specs.Order.{sizes_of}
-use Rattle.scalars.proofs.ScalarLaws.{nothing-before}
+use Rattle.buckets.proofs.Laws.{nothing-before}
 use Rattle.marks.specs.Mark.{byte_of, silent_one}
-use Rattle.marks.proofs.MarkLaws.{up_none, old_below, old-known, scalar_fits, up_more, block_next, up_all, all_places, one-most}
+use Rattle.marks.proofs.MarkLaws.{counted-one, up_none, old_below, old-known, scalar_fits, up_more, block_next, up_all, all_places, one-most}
 use Rattle.marks.proofs.cores.mark_scalars.Goals as goal
 
 pub loop-block-init : goal.loop-block-init
@@ -24,7 +25,7 @@ loop-s-preserved c =
     let m = c.mark_of-m in (
       omega (arith, w.invariant.0),
       up_more x.dims.now x.order.now c.requires.dims_len_bound.2 x.tol x.d.now x.old_starts.now c.requires.old_starts_value.0 v.block-index c.loop-block-test.true w.place w.s w.invariant.0 c.loop-s-test.true
-          w.marks w.silent _ _ (c.byte_of.ensures ∙ ap byte_of m.ensures) (c.silent_one-silent.ensures ∙ ap silent_one m.ensures) w.invariant.1,
+          w.marks w.silent _ _ (c.from.ensures ∙ ap byte_of m.ensures) (counted-one m.result (c.from-silent.ensures ∙ ap bool_byte c.eq.ensures) ∙ ap silent_one m.ensures) w.invariant.1,
     )
 
 pub loop-block-preserved : goal.loop-block-preserved
@@ -84,7 +85,7 @@ overflow_add-silent c =
     let r = c.requires.dims_len_bound in
     let w = c.loop-s in
     let f = scalar_fits x.dims.now x.order.now r.2 x.tol x.d.now x.old_starts.now c.requires.old_starts_value.0 c.loop-block.block-index c.loop-block-test.true w.place w.s w.invariant.0 c.loop-s-test.true r.1 r.0 in
-    omega (arith, f, w.invariant.1.few, c.silent_one-silent.ensures, one-most c.mark_of-m.result)
+    omega (arith, f, w.invariant.1.few, counted-one c.mark_of-m.result (c.from-silent.ensures ∙ ap bool_byte c.eq.ensures), one-most c.mark_of-m.result)
 
 pub overflow_add-place : goal.overflow_add-place
 overflow_add-place c =

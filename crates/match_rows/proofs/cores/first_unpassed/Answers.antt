@@ -18,10 +18,8 @@ pub unpassed_in-requires : goal.unpassed_in-requires
 unpassed_in-requires c =
     let s = c.requires in
     let j = c.loop-c.c in
-    let from = c.wide-from.ensures in
-    let end = c.wide-end.ensures in
     let h = c.loop-c-test.true in
-    (rises-of s j h, rw c.wide-parent.ensures (rises-of s _ (s.ranged j _ h (omega (arith, from)) (omega (arith, from, end))).1), rw (from, end) at c.if-from-end.true)
+    (rises-of s j h, rises-of s _ (s.ranged j _ h (omega arith) c.if-from-end.true).1, c.if-from-end.true)
 
 pub loop-c-preserved : goal.loop-c-preserved
 loop-c-preserved c =
@@ -29,20 +27,17 @@ loop-c-preserved c =
     let s = c.requires in
     let l = c.loop-c in
     let h = c.loop-c-test.true in
-    let from = c.wide-from.ensures in
-    let end = c.wide-end.ensures in
     let starts = a.l_starts.now in
     let rows = a.l_rows.now in
     elim c.if-from-end.branch [
       | then-from-end+then-parent-least+then-is_some w ↦
-          let k = w.wide-parent.ensures in
-          let u = rw (k, from) at w.unpassed_in.ensures in
-          (omega arith, rw (w.least-is, k, from) (rowing-down starts rows a.n s l.c l.least h l.invariant.1 _ refl (rw (from, end) at w.if-from-end.true) (rw (k, from) at w.if-parent-least.true) (some-within _ _ _ _ u (sym w.is_some.ensures ∙ w.if-is_some.true))))
+          let u = w.unpassed_in.ensures in
+          (omega arith, rw w.least-is (rowing-down starts rows a.n s l.c l.least h l.invariant.1 _ refl w.if-from-end.true w.if-parent-least.true (some-within _ _ _ _ u (sym w.is_some.ensures ∙ w.if-is_some.true))))
       | then-from-end+then-parent-least+else-is_some w ↦
-          let u = rw (w.wide-parent.ensures, from) at w.unpassed_in.ensures in
+          let u = w.unpassed_in.ensures in
           (omega arith, rw w.least-is (rowing-passed starts rows a.n s l.c l.least h l.invariant.1 _ refl (none-past _ _ _ _ u (sym w.is_some.ensures ∙ w.if-is_some.false))))
-      | then-from-end+else-parent-least w ↦ (omega arith, rw w.least-is (rowing-above starts rows a.n s l.c l.least h l.invariant.1 (rw (w.wide-parent.ensures, from) at w.if-parent-least.false)))
-      | else-from-end w ↦ (omega arith, rw w.least-is (rowing-empty starts rows a.n s l.c l.least h l.invariant.1 (rw (from, end) at w.if-from-end.false)))
+      | then-from-end+else-parent-least w ↦ (omega arith, rw w.least-is (rowing-above starts rows a.n s l.c l.least h l.invariant.1 w.if-parent-least.false))
+      | else-from-end w ↦ (omega arith, rw w.least-is (rowing-empty starts rows a.n s l.c l.least h l.invariant.1 w.if-from-end.false))
     ]
 
 pub returns : goal.returns

@@ -18,16 +18,14 @@ loop-c-preserved c =
     let l = c.loop-c in
     let s = c.requires in
     let a = c.args in
-    let from = c.wide-from.ensures in
-    let end = c.wide-end.ensures in
     let rises = rises-of s.n_bound.1 l.c (omega arith) in
     let starts = a.l_starts.now in
     elim c.if-from-end.branch [
       | then-from-end w ↦
-          let some : at starts l.c < at starts (l.c + 1) = omega (arith, from, end, w.if-from-end.true) in
+          let some : at starts l.c < at starts (l.c + 1) = w.if-from-end.true in
           let below = (s.n_bound.1.ranged l.c (at starts l.c) (omega arith) (omega arith) some).1 in
-          rw (w.head-is, w.sibling-is) (omega arith, rw (w.wide-k.ensures, from) (families_next l.invariant.1 (at a.l_rows.now (at starts l.c)) (omega (arith, below, s.n_bound.0)) (omega (arith, s.n_bound.0)) (λ k. heads-at rises k some)))
-      | else-from-end w ↦ rw (w.head-is, w.sibling-is) (omega arith, families_skip l.invariant.1 (λ k. heads-none rises k (rw (from, end) at w.if-from-end.false)))
+          rw (w.head-is, w.sibling-is) (omega arith, (families_next l.invariant.1 (at a.l_rows.now (at starts l.c)) (omega (arith, below, s.n_bound.0)) (omega (arith, s.n_bound.0)) (λ k. heads-at rises k some)))
+      | else-from-end w ↦ rw (w.head-is, w.sibling-is) (omega arith, families_skip l.invariant.1 (λ k. heads-none rises k w.if-from-end.false))
     ]
 
 pub returns : goal.returns

@@ -13,23 +13,19 @@ returns-then-i-k c =
 pub holds-requires : goal.holds-requires
 holds-requires c =
     let s = c.requires in
-    rw c.wide-p.ensures (rises-of s.columns.0 _ (below_at _ _ s.columns.1 _ s.i_in_bounds.0))
+    rises-of s.columns.0 _ (below_at _ _ s.columns.1 _ s.i_in_bounds.0)
 
 pub returns-then-p-q : goal.returns-then-p-q
 returns-then-p-q c =
     let s = c.args in
-    let e = c.wide-p.ensures in
-    let f = c.wide-q.ensures in
-    rw (e, f) at c.holds.ensures ∙ linked-rises s.links.now.starts.now s.links.now.rows.now s.links.now.order.now s.i s.k c.if-i-k.false (rw (e, f) at c.if-p-q.true)
+    c.holds.ensures ∙ linked-rises s.links.now.starts.now s.links.now.rows.now s.links.now.order.now s.i s.k c.if-i-k.false c.if-p-q.true
 
 pub holds-requires-2 : goal.holds-requires-2
 holds-requires-2 c =
     let s = c.requires in
-    rw c.wide-q.ensures (rises-of s.columns.0 _ (below_at _ _ s.columns.1 _ s.i_in_bounds.1))
+    rises-of s.columns.0 _ (below_at _ _ s.columns.1 _ s.i_in_bounds.1)
 
 pub returns : goal.returns
 returns c =
     let s = c.args in
-    let e = c.wide-p.ensures in
-    let f = c.wide-q.ensures in
-    rw (e, f) at c.holds-2.ensures ∙ linked-falls s.links.now.starts.now s.links.now.rows.now s.links.now.order.now s.i s.k c.if-i-k.false (rw (e, f) at c.if-p-q.false)
+    c.holds-2.ensures ∙ linked-falls s.links.now.starts.now s.links.now.rows.now s.links.now.order.now s.i s.k c.if-i-k.false c.if-p-q.false

@@ -12,23 +12,19 @@ returns-then-row-column c =
 pub lower-requires : goal.lower-requires
 lower-requires c =
     let s = c.requires in
-    rw c.wide-p.ensures (s.by_index _ s.row_in_bounds.0)
+    s.by_index _ s.row_in_bounds.0
 
 pub returns-then-p-q : goal.returns-then-p-q
 returns-then-p-q c =
     let s = c.args in
-    let e = c.wide-p.ensures in
-    let f = c.wide-q.ensures in
-    rw (e, f) at c.lower.ensures ∙ by-rises s.inverse.now (rows_in s.l_starts.now s.l_rows.now) s.row s.column s.least c.if-row-column.false (rw (e, f) at c.if-p-q.true)
+    c.lower.ensures ∙ by-rises s.inverse.now (rows_in s.l_starts.now s.l_rows.now) s.row s.column s.least c.if-row-column.false c.if-p-q.true
 
 pub lower-requires-2 : goal.lower-requires-2
 lower-requires-2 c =
     let s = c.requires in
-    rw c.wide-q.ensures (s.by_index _ s.row_in_bounds.1)
+    s.by_index _ s.row_in_bounds.1
 
 pub returns : goal.returns
 returns c =
     let s = c.args in
-    let e = c.wide-p.ensures in
-    let f = c.wide-q.ensures in
-    rw (e, f) at c.lower-2.ensures ∙ by-falls s.inverse.now (rows_in s.l_starts.now s.l_rows.now) s.row s.column s.least c.if-row-column.false (rw (e, f) at c.if-p-q.false)
+    c.lower-2.ensures ∙ by-falls s.inverse.now (rows_in s.l_starts.now s.l_rows.now) s.row s.column s.least c.if-row-column.false c.if-p-q.false

@@ -19,9 +19,7 @@ loop-c-init c =
 pub loop-u-init : goal.loop-u-init
 loop-u-init c =
     let l = c.loop-c in
-    let e = c.wide-u.ensures in
-    let f = c.wide-end.ensures in
-    (l.invariant.0, f, omega (arith, e), omega (arith, e, f, c.requires.columns.0.ordered.rising l.c (omega arith)), rw e l.invariant.2)
+    (l.invariant.0, refl, omega arith, c.requires.columns.0.ordered.rising l.c (omega arith), l.invariant.2)
 
 pub lower_by-least-requires : goal.lower_by-least-requires
 lower_by-least-requires c =
@@ -30,7 +28,7 @@ lower_by-least-requires c =
     let i = s.columns.1 in
     let j = c.loop-c.c in
     let n = i.count in
-    record { row_in_bounds = (rw (c.wide.ensures, n) (s.columns.0.ranged j l.u (omega arith) l.invariant.2 (omega (arith, l.invariant.1))).1, omega (arith, n)); by_index = λ o h. rises-of s.columns_2 _ (i.back o (omega (arith, n))).0 }
+    record { row_in_bounds = (rw n (s.columns.0.ranged j l.u (omega arith) l.invariant.2 (omega (arith, l.invariant.1))).1, omega (arith, n)); by_index = λ o h. rises-of s.columns_2 _ (i.back o (omega (arith, n))).0 }
 
 pub loop-u-preserved : goal.loop-u-preserved
 loop-u-preserved c =
@@ -43,7 +41,7 @@ loop-u-preserved c =
       e,
       omega arith,
       omega arith,
-      rw (c.lower_by-least.ensures, c.wide.ensures)
+      rw c.lower_by-least.ensures
           (storing-next a.links.now.starts.now a.links.now.rows.now a.links.now.order.now a.inverse.now (length a.links.now.order.now) s.columns.0 s.columns.1 (rows_in a.l_starts.now a.l_rows.now) j l.u l.least (omega arith) l.invariant.2 (omega (arith, e)) l.invariant.4),
     )
 

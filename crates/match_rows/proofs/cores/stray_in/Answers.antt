@@ -8,6 +8,4 @@ first_fault-requires c u l h =
     let s = c.requires in
     let k = c.args.k in
     let o = s.compared.l_columns.ordered in
-    let a = rw c.wide.ensures at l in
-    let b = rw c.wide-2.ensures at h in
-    (s.compared.columns, s.compared.permutes, s.compared.few, s.k_in_bounds.0, omega (arith, b, o.inside (k + 1) (omega (arith, s.k_in_bounds.0))), (s.compared.l_columns.ranged k u s.k_in_bounds.0 a b).1, s.k_in_bounds.1)
+    (s.compared.columns, s.compared.permutes, s.compared.few, s.k_in_bounds.0, omega (arith, h, o.inside (k + 1) (omega (arith, s.k_in_bounds.0))), (s.compared.l_columns.ranged k u s.k_in_bounds.0 l h).1, s.k_in_bounds.1)

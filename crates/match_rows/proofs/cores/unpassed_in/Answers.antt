@@ -1,17 +1,18 @@
 -- `match_rows::cores::unpassed_in` meets its contract: the walk of the two columns (`Walked`). Assumes nothing.
 use Rattle.std.specs.Prelude.{◌+◌, ◌<◌}
+use mathlib.Core.Path.{refl}
 use native.Mathlib.Omega.{arith}
 use Rattle.tables.specs.Verdict.{at}
 use Rattle.tables.proofs.SearchLaws.{ended}
 use Rattle.match_rows.proofs.FoundLaws.{found-at, found-none}
 use Rattle.match_rows.proofs.WalkLaws.{walked_none, walk_over, walk_next, walk_end, walk_lacks, walk_on}
 use Rattle.match_rows.proofs.cores.unpassed_in.Goals as goal
-use Rattle.match_rows.proofs.cores.unpassed_in.Goals.{then-wide-row+else-last-place-2+else-row-wide, else-wide-row}
+use Rattle.match_rows.proofs.cores.unpassed_in.Goals.{then-l_rows-place+else-last-place-2+else-row-l_rows, else-l_rows-place}
 
 pub loop-u-init : goal.loop-u-init
 loop-u-init c =
     let s = c.requires in
-    (c.wide-end.ensures, c.wide-last.ensures, rw (c.wide-u.ensures, c.wide-place.ensures) (walked_none s.0 s.1 s.2))
+    (refl, refl, walked_none s.0 s.1 s.2)
 
 pub returns-then-last-place : goal.returns-then-last-place
 returns-then-last-place c =
@@ -23,39 +24,37 @@ pub place_from-place-requires : goal.place_from-place-requires
 place_from-place-requires c =
     let g = c.loop-u.invariant in
     let l : c.loop-u.u < at c.args.l_starts.now (c.args.c + 1) = omega (arith, g.0) in
-    record { column_rises = c.requires.1; column_bound = (g.2.within.0, g.2.within.1, λ p a b. rw c.wide-row.ensures (g.2.below p c.loop-u.u a b (omega arith) l)) }
+    record { column_rises = c.requires.1; column_bound = (g.2.within.0, g.2.within.1, λ p a b. g.2.below p c.loop-u.u a b (omega arith) l) }
 
 pub returns-then-last-place-2 : goal.returns-then-last-place-2
 returns-then-last-place-2 c =
     let s = c.requires in
     let g = c.loop-u.invariant in
-    found-at _ _ _ _ (walk_end s.0 s.1 g.2 (omega (arith, g.0)) (rw c.wide-row.ensures at c.place_from-place.ensures) (omega (arith, g.1))) (omega (arith, g.0))
+    found-at _ _ _ _ (walk_end s.0 s.1 g.2 (omega (arith, g.0)) c.place_from-place.ensures (omega (arith, g.1))) (omega (arith, g.0))
 
-pub returns-then-row-wide : goal.returns-then-row-wide
-returns-then-row-wide c =
+pub returns-then-row-l_rows : goal.returns-then-row-l_rows
+returns-then-row-l_rows c =
     let s = c.requires in
     let g = c.loop-u.invariant in
-    let row = c.wide-row.ensures in
-    found-at _ _ _ _ (walk_lacks s.0 s.1 g.2 (omega (arith, g.0)) (rw row at c.place_from-place.ensures) (omega (arith, g.1)) (rw (row, c.wide-then-wide-row.ensures) at c.if-row-wide.true)) (omega (arith, g.0))
+    found-at _ _ _ _ (walk_lacks s.0 s.1 g.2 (omega (arith, g.0)) c.place_from-place.ensures (omega (arith, g.1)) c.if-row-l_rows.true) (omega (arith, g.0))
 
 pub overflow_add-place : goal.overflow_add-place
 overflow_add-place c =
     let s = c.requires in
     let last = c.loop-u.invariant.1 in
-    elim c.if-wide-row.branch [
-      | then-wide-row+else-last-place-2+else-row-wide w ↦ omega (arith, w.place-is, w.if-last-place-2.false, last, s.1.inside.1)
-      | else-wide-row w ↦ omega (arith, w.place-is, last, s.1.inside.1)
+    elim c.if-l_rows-place.branch [
+      | then-l_rows-place+else-last-place-2+else-row-l_rows w ↦ omega (arith, w.place-is, w.if-last-place-2.false, last, s.1.inside.1)
+      | else-l_rows-place w ↦ omega (arith, w.place-is, last, s.1.inside.1)
     ]
 
 pub loop-u-preserved : goal.loop-u-preserved
 loop-u-preserved c =
     let s = c.requires in
     let g = c.loop-u.invariant in
-    let row = c.wide-row.ensures in
-    elim c.if-wide-row.branch [
-      | then-wide-row+else-last-place-2+else-row-wide w ↦
-          (g.0, g.1, rw w.place-is (walk_on s.0 s.1 g.2 (omega (arith, g.0)) (rw row at w.place_from-place.ensures) (omega (arith, g.1, w.if-last-place-2.false)) (rw (row, w.wide-then-wide-row.ensures) at w.if-row-wide.false)))
-      | else-wide-row w ↦ (g.0, g.1, rw w.place-is (walk_next s.0 s.1 g.2 (omega (arith, g.0)) (omega (arith, g.1)) (rw (row, c.wide.ensures) at w.if-wide-row.false)))
+    elim c.if-l_rows-place.branch [
+      | then-l_rows-place+else-last-place-2+else-row-l_rows w ↦
+          (g.0, g.1, rw w.place-is (walk_on s.0 s.1 g.2 (omega (arith, g.0)) w.place_from-place.ensures (omega (arith, g.1, w.if-last-place-2.false)) w.if-row-l_rows.false))
+      | else-l_rows-place w ↦ (g.0, g.1, rw w.place-is (walk_next s.0 s.1 g.2 (omega (arith, g.0)) (omega (arith, g.1)) w.if-l_rows-place.false))
     ]
 
 pub returns : goal.returns

@@ -6,16 +6,16 @@ use Rattle.reach_products.specs.Reach.{advanced, reach_triples}
 use Rattle.reach_products.proofs.ReachLaws.{ReachUpTo}
 use Rattle.reach_products.proofs.cores.apply_reach.Given as goal
 
-abbrev pub invariant-loop-u : goal.invariant-loop-u
-invariant-loop-u l =
+abbrev pub invariant-loop-reaching : goal.invariant-loop-reaching
+invariant-loop-reaching l =
     record {
-      done : l.u ≤ length l.reach;
+      done : l.reaching-index ≤ length l.reach;
       places : l.w.places.now ≡ l.initial.w.places.now;
       same : SameWorking l.initial.w l.w;
-      moved : l.next ≡ advanced (take l.u l.reach) l.initial.next;
-      counts : l.n ≡ l.count + length (reach_triples (plan_of l.t l.initial.w.places.now) l.t.l_starts.now l.initial.next l.j (take l.u l.reach));
-      steps : ReachUpTo (plan_of l.t l.initial.w.places.now) l.t.l_starts.now l.j l.reach l.initial.next l.f.l_values.now l.f.diag.now l.f.d.now l.f.cache.now l.initial.w.c.now l.count l.w.c.now l.n l.u;
+      moved : l.next ≡ advanced (take l.reaching-index l.reach) l.initial.next;
+      counts : l.n ≡ l.count + length (reach_triples (plan_of l.t l.initial.w.places.now) l.t.l_starts.now l.initial.next l.j (take l.reaching-index l.reach));
+      steps : ReachUpTo (plan_of l.t l.initial.w.places.now) l.t.l_starts.now l.j l.reach l.initial.next l.f.l_values.now l.f.diag.now l.f.d.now l.f.cache.now l.initial.w.c.now l.count l.w.c.now l.n l.reaching-index;
     }
 
-abbrev pub decreases-loop-u : goal.decreases-loop-u
-decreases-loop-u l = length l.reach - l.u
+abbrev pub decreases-loop-reaching : goal.decreases-loop-reaching
+decreases-loop-reaching l = length l.reach - l.reaching-index

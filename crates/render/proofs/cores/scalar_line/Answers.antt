@@ -2,6 +2,7 @@
 use Rattle.std.specs.Prelude.{ℕ, ◌≡◌, List, [], ◌∷◌}
 use mathlib.Core.Path.{subst}
 use native.Mathlib.Omega.{arith}
+use borrow.Author.Rules.{rules}
 use lib.Ieee.{Float}
 use Rattle.digits.specs.Digits.{decimal, hex16, bits_of, Puts}
 use Rattle.digits.proofs.Laws.{length_digits}
@@ -13,38 +14,38 @@ use Rattle.render.proofs.cores.scalar_line.Goals as goal
 bits_put : (x : Float) (bits : ℕ) {at r : ℕ} {out out' : List ℕ} → bits ≡ bits_of x → Puts at (hex16 bits) out r out' → Puts at (hex16 (bits_of x)) out r out'
 bits_put x bits {at} {r} {out} {out'} e p = subst (λ (b : ℕ). Puts at (hex16 b) out r out') e p
 
-pub put_decimal-a-requires : goal.put_decimal-a-requires
+pub decimal-requires : goal.decimal-requires
 unfolding scalar_line
-put_decimal-a-requires c =
+decimal-requires c =
     let x = c.args in
     room-2 _ _ [] (decimal x.k) (32 ∷ []) (hex16 (bits_of x.x)) (mark_word x.mark) line_feed c.requires (puts-nothing _ _)
 
-pub put_text-b-requires : goal.put_text-b-requires
+pub text-requires : goal.text-requires
 unfolding scalar_line
-put_text-b-requires c =
+text-requires c =
     let x = c.args in
-    room-3 _ _ [] (decimal x.k) (32 ∷ []) (hex16 (bits_of x.x)) (mark_word x.mark) line_feed c.requires (puts-nothing _ _) c.put_decimal-a.ensures
+    room-3 _ _ [] (decimal x.k) (32 ∷ []) (hex16 (bits_of x.x)) (mark_word x.mark) line_feed c.requires (puts-nothing _ _) c.decimal.ensures.puts
 
-pub put_hex-c-requires : goal.put_hex-c-requires
+pub hex-requires : goal.hex-requires
 unfolding scalar_line
-put_hex-c-requires c =
+hex-requires c =
     let x = c.args in
-    omega (arith, room-4 _ _ [] (decimal x.k) (32 ∷ []) (hex16 (bits_of x.x)) (mark_word x.mark) line_feed c.requires (puts-nothing _ _) c.put_decimal-a.ensures c.put_text-b.ensures, length_digits 16 16 (bits_of x.x))
+    omega (arith, room-4 _ _ [] (decimal x.k) (32 ∷ []) (hex16 (bits_of x.x)) (mark_word x.mark) line_feed c.requires (puts-nothing _ _) c.decimal.ensures.puts c.text.ensures.puts, length_digits 16 16 (bits_of x.x))
 
-pub mark_word-d-requires : goal.mark_word-d-requires
+pub mark_word-requires : goal.mark_word-requires
 unfolding scalar_line
-mark_word-d-requires c =
+mark_word-requires c =
     let x = c.args in
-    room-5 _ _ [] (decimal x.k) (32 ∷ []) (hex16 (bits_of x.x)) (mark_word x.mark) line_feed c.requires (puts-nothing _ _) c.put_decimal-a.ensures c.put_text-b.ensures (bits_put x.x _ c.bits_of.ensures c.put_hex-c.ensures)
+    room-5 _ _ [] (decimal x.k) (32 ∷ []) (hex16 (bits_of x.x)) (mark_word x.mark) line_feed c.requires (puts-nothing _ _) c.decimal.ensures.puts c.text.ensures.puts (bits_put x.x _ c.bits_of.ensures c.hex.ensures.puts)
 
-pub put_text-requires : goal.put_text-requires
+pub text-requires-2 : goal.text-requires-2
 unfolding scalar_line
-put_text-requires c =
+text-requires-2 c =
     let x = c.args in
-    room-6 _ _ [] (decimal x.k) (32 ∷ []) (hex16 (bits_of x.x)) (mark_word x.mark) line_feed c.requires (puts-nothing _ _) c.put_decimal-a.ensures c.put_text-b.ensures (bits_put x.x _ c.bits_of.ensures c.put_hex-c.ensures) c.mark_word-d.ensures
+    room-6 _ _ [] (decimal x.k) (32 ∷ []) (hex16 (bits_of x.x)) (mark_word x.mark) line_feed c.requires (puts-nothing _ _) c.decimal.ensures.puts c.text.ensures.puts (bits_put x.x _ c.bits_of.ensures c.hex.ensures.puts) c.mark_word.ensures.puts
 
 pub returns : goal.returns
 unfolding scalar_line
 returns c =
     let x = c.args in
-    whole-line _ _ [] (decimal x.k) (32 ∷ []) (hex16 (bits_of x.x)) (mark_word x.mark) line_feed c.requires (puts-nothing _ _) c.put_decimal-a.ensures c.put_text-b.ensures (bits_put x.x _ c.bits_of.ensures c.put_hex-c.ensures) c.mark_word-d.ensures c.put_text.ensures
+    record { puts = whole-line _ _ [] (decimal x.k) (32 ∷ []) (hex16 (bits_of x.x)) (mark_word x.mark) line_feed c.requires (puts-nothing _ _) c.decimal.ensures.puts c.text.ensures.puts (bits_put x.x _ c.bits_of.ensures c.hex.ensures.puts) c.mark_word.ensures.puts c.text-2.ensures.puts; same = search rules }

@@ -6,7 +6,8 @@ use Rattle.buckets.specs.Buckets.{before}
 use Rattle.order.specs.Order.{sizes_of}
 use Rattle.scalars.specs.Scalars.{scalar_perm}
 use Rattle.scalars.proofs.Filling.{filled_none, filled_all}
-use Rattle.scalars.proofs.ScalarLaws.{nothing-before, perm-size, scalar-permutes, old_below, old-starts-long, start_small, place_inside, scalar-turn, block-turn}
+use Rattle.buckets.proofs.Laws.{nothing-before}
+use Rattle.scalars.proofs.ScalarLaws.{perm-size, scalar-permutes, old_below, old-starts-long, start_small, place_inside, scalar-turn, block-turn}
 use Rattle.scalars.proofs.cores.make_scalar_perm.Goals as goal
 
 pub loop-old-init : goal.loop-old-init

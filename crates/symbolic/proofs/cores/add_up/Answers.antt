@@ -9,7 +9,7 @@ pub loop-c-init : goal.loop-c-init
 loop-c-init c = total-begins _
 
 pub overflow_add-stored : goal.overflow_add-stored
-overflow_add-stored c = omega (arith, c.loop-c.invariant.small.0, c.requires.1 c.loop-c.c-index c.loop-c-test.true, c.wide-stored.ensures, c.requires.0)
+overflow_add-stored c = omega (arith, c.loop-c.invariant.small.0, c.requires.1 c.loop-c.c-index c.loop-c-test.true, c.requires.0)
 
 pub products_of-products-requires : goal.products_of-products-requires
 products_of-products-requires c = c.requires.1 c.loop-c.c-index c.loop-c-test.true
@@ -25,9 +25,8 @@ loop-c-preserved c =
     let loop = c.loop-c in
     let count = c.args.count.now in
     let inside = c.loop-c-test.true in
-    subst (λ (x : ℕ). Totalled count (loop.stored + x) (loop.products + c.products_of-products.result) (loop.c-index + 1)) (sym c.wide-stored.ensures)
-    (subst (λ (x : ℕ). Totalled count (loop.stored + get_or count loop.c-index 0) (loop.products + x) (loop.c-index + 1)) (sym c.products_of-products.ensures)
-    (total-turns count loop.stored loop.products loop.c-index loop.invariant inside (c.requires.1 loop.c-index inside)))
+    subst (λ (x : ℕ). Totalled count (loop.stored + get_or count loop.c-index 0) (loop.products + x) (loop.c-index + 1)) (sym c.products_of-products.ensures)
+    (total-turns count loop.stored loop.products loop.c-index loop.invariant inside (c.requires.1 loop.c-index inside))
 
 pub returns : goal.returns
 returns c = let both = total-ends _ _ _ _ c.loop-c.invariant c.loop-c-test.false in record { stored_value = both.0; products_value = both.1 }

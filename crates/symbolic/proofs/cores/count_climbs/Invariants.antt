@@ -4,11 +4,11 @@ use Rattle.std.specs.Prelude.{ℕ, ◌-◌, List, length}
 use Rattle.symbolic.proofs.Climbs.{Scanning, Counted, CountClimb}
 use Rattle.symbolic.proofs.cores.count_climbs.Given as goal
 
-abbrev pub invariant-climb : goal.invariant-climb
-invariant-climb l = CountClimb l.parent l.sizes l.mark l.initial.stamp l.initial.count l.initial.total l.initial.at l.stamp l.count l.total l.at
+abbrev pub invariant-loop-stamp : goal.invariant-loop-stamp
+invariant-loop-stamp l = CountClimb l.parent l.sizes l.mark l.initial.stamp l.initial.count l.initial.total l.initial.at l.stamp l.count l.total l.at
 
-abbrev pub decreases-climb : goal.decreases-climb
-decreases-climb l = length l.parent - l.at
+abbrev pub decreases-loop-stamp : goal.decreases-loop-stamp
+decreases-loop-stamp l = length l.parent - l.at
 
 abbrev pub invariant-loop-i : goal.invariant-loop-i
 invariant-loop-i l = (found : List ℕ) × Scanning l.parent l.rows l.j l.mark l.initial.stamp l.i-index l.stamp found × Counted l.sizes l.initial.count found l.count l.total

@@ -15,20 +15,11 @@ loop-j-init c =
     let one = c.fill in
     let two = c.fill-2 in
     let n = length c.args.t.now.parent.now in (
-      count_begins c.args.t.now.starts.now c.args.t.now.rows.now n c.args.t.now.parent.now one.new.s two.new.s c.requires.tree.0
-          (one.ensures ∙ ap (λ (m : ℕ). replicate m 0) c.requires.stamp_len.0) (two.ensures ∙ ap (λ (m : ℕ). replicate m 0) c.requires.stamp_len.1),
+      count_begins c.args.t.now.starts.now c.args.t.now.rows.now n c.args.t.now.parent.now one.new.self two.new.self c.requires.tree.0
+          (one.ensures.after (λ y h. h) ∙ ap (λ (m : ℕ). replicate m 0) c.requires.stamp_len.0) (two.ensures.after (λ y h. h) ∙ ap (λ (m : ℕ). replicate m 0) c.requires.stamp_len.1),
       refl,
       number_begins c.args.t.now.starts.now c.args.t.now.rows.now n c.args.sizes.now,
     )
-
-pub slice_bounds-count_climbs-count : goal.slice_bounds-count_climbs-count
-slice_bounds-count_climbs-count c = c.loop-j.invariant.0.tree.pattern.rising c.loop-j.j c.loop-j-test.true
-
-pub slice_bounds-count_climbs-start : goal.slice_bounds-count_climbs-start
-slice_bounds-count_climbs-start c = c.loop-j.invariant.0.tree.pattern.rising c.loop-j.j c.loop-j-test.true
-
-pub slice_bounds-count_climbs-end : goal.slice_bounds-count_climbs-end
-slice_bounds-count_climbs-end c = c.loop-j.invariant.0.tree.pattern.inside (c.loop-j.j + 1) (omega (arith, c.loop-j-test.true))
 
 pub count_climbs-added-requires : goal.count_climbs-added-requires
 count_climbs-added-requires c =
@@ -40,12 +31,6 @@ count_climbs-added-requires c =
     let parent = c.args.t.now.parent.now in
     let part = take (get_or starts (v.j + 1) 0 - get_or starts v.j 0) (drop (get_or starts v.j 0) rows) in
     let lent = part_slice rows (get_or starts v.j 0) (get_or starts (v.j + 1) 0) in record { parents = (tree-rule starts rows (length parent) g.tree.pattern.few g.tree.ascends parent g.tree.liu, taken, g.tree.pattern.few, c.requires.tree.1); stamp_len = (length-set v.stamp v.j (v.j + 1) ∙ g.sizes.0, g.sizes.1); roomy = count_asks starts rows (length parent) parent v.stamp v.count v.j g taken part lent }
-
-pub bounds-sizes-j : goal.bounds-sizes-j
-bounds-sizes-j c = omega (arith, c.requires.tree.1.count, c.loop-j-test.true)
-
-pub overflow_cast-numbers : goal.overflow_cast-numbers
-overflow_cast-numbers c = omega (arith, c.requires.tree.1.small c.loop-j.j)
 
 pub overflow_mul-numbers : goal.overflow_mul-numbers
 overflow_mul-numbers c = omega (arith, times-le (get_or c.args.sizes.now c.loop-j.j 0) c.count_climbs-added.result (c.requires.tree.1.small c.loop-j.j) c.count_climbs-added.ensures.value.1)

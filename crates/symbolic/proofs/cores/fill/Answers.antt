@@ -20,20 +20,11 @@ loop-j-init c =
     let one = c.fill in
     let two = c.copy in
     let n = length c.args.t.now.parent.now in (
-      fill_begins c.args.t.now.starts.now c.args.t.now.rows.now n c.args.t.now.parent.now c.args.l_starts.now one.new.s two.new.to c.args.l_rows.now c.requires.tree
-          (one.ensures ∙ ap (λ (m : ℕ). replicate m 0) c.requires.stamp_len.0) c.requires.laid (two.ensures ∙ ap (λ (m : ℕ). take m c.args.l_starts.now) c.requires.stamp_len.1),
+      fill_begins c.args.t.now.starts.now c.args.t.now.rows.now n c.args.t.now.parent.now c.args.l_starts.now one.new.self two.new.to c.args.l_rows.now c.requires.tree
+          (one.ensures.after (λ y h. h) ∙ ap (λ (m : ℕ). replicate m 0) c.requires.stamp_len.0) c.requires.laid (two.ensures ∙ ap (λ (m : ℕ). take m c.args.l_starts.now) c.requires.stamp_len.1),
       refl,
       refl,
     )
-
-pub slice_bounds-store_climbs-count : goal.slice_bounds-store_climbs-count
-slice_bounds-store_climbs-count c = c.loop-j.invariant.0.tree.pattern.rising c.loop-j.j c.loop-j-test.true
-
-pub slice_bounds-store_climbs-start : goal.slice_bounds-store_climbs-start
-slice_bounds-store_climbs-start c = c.loop-j.invariant.0.tree.pattern.rising c.loop-j.j c.loop-j-test.true
-
-pub slice_bounds-store_climbs-end : goal.slice_bounds-store_climbs-end
-slice_bounds-store_climbs-end c = c.loop-j.invariant.0.tree.pattern.inside (c.loop-j.j + 1) (omega (arith, c.loop-j-test.true))
 
 pub store_climbs-requires : goal.store_climbs-requires
 store_climbs-requires c =

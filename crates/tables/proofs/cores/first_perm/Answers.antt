@@ -1,5 +1,5 @@
 -- `tables::cores::first_perm` meets its contract: the test has held at each place so far, and each entry passed has its mark. Assumes nothing.
-use Rattle.std.specs.Prelude.{◌≡◌, ◌<◌, true, length, get_or}
+use Rattle.std.specs.Prelude.{◌≡◌, true}
 use Prim.Native.Nat.{zero-le}
 use native.Mathlib.Omega.{arith}
 use borrow.Author.Count.{below_more}
@@ -16,12 +16,8 @@ pub returns-then-not-perm_ok : goal.returns-then-not-perm_ok
 returns-then-not-perm_ok c =
     fault-here _ 0 _ _ zero-le (omega arith) (λ k _ h. c.loop-i.invariant.passed k h) (sym c.perm_ok.ensures ∙ c.if-not-perm_ok.true)
 
--- what the test that passed says of the entry
-parts : (c : goal.After-shared_slice_known-in-loop-i-1-unread) → (c.loop-i.i < length c.args.perm.now) × (get_or c.args.perm.now c.loop-i.i 0 < c.args.n)
-parts c = perm-parts _ _ _ c.loop-i-test.true (sym c.perm_ok.ensures ∙ c.if-not-perm_ok.false)
-
 pub bounds-perm-i : goal.bounds-perm-i
-bounds-perm-i c = (parts c).0
+bounds-perm-i c = (perm-parts c.args.perm.now c.args.n c.loop-i.i c.loop-i-test.true (sym c.perm_ok.ensures ∙ c.if-not-perm_ok.false)).0
 
 pub bounds-seen-v : goal.bounds-seen-v
 bounds-seen-v c =
@@ -35,7 +31,7 @@ loop-i-preserved c =
     let p = perm-parts c.args.perm.now c.args.n h.i c.loop-i-test.true passes in
     record {
       passed = below_more (λ k. perm_ok c.args.perm.now c.args.n k ≡ true) h.i h.invariant.passed passes;
-      marked = rw c.wide-v.ensures (marked_more h.seen c.args.perm.now h.i h.invariant.marked p.0 (omega (arith, p.1)));
+      marked = marked_more h.seen c.args.perm.now h.i h.invariant.marked p.0 (omega (arith, p.1));
     }
 
 pub returns-then-perm_ok : goal.returns-then-perm_ok

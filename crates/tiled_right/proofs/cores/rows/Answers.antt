@@ -1,5 +1,5 @@
 -- `tiled_right::cores::rows` meets its contract. Assumes nothing.
-use Rattle.std.specs.Prelude.{◌+◌, ◌-◌, true, false, get_or}
+use Rattle.std.specs.Prelude.{◌+◌, ◌-◌, get_or}
 use mathlib.Core.Path.{◌∙◌}
 use lib.Ieee.{nan, binary64, mul}
 use borrow.Author.Rules.{rules}
@@ -17,12 +17,13 @@ loop-j-preserved g c =
     let o = c.loop-j in (
       search rules,
       search rules,
-      forward-more x.m x.n x.l.now x.d.now x.from.now (search rules) x.i g.row.N (search rules) x.x.now o.j o.x _ (search rules) o.invariant.2
-          (rows-wrote x.m x.n x.l.now o.x o.j 0 false x.i o.j (λ r. at x.from.now x.m r o.j) (search rules) (search rules) g.row.N _ _ _ (search rules) c.entries-s.ensures c.lost-z.ensures c.keep.ensures),
+      forward-more x.m x.n x.l.now x.d.now x.from.now (search rules) x.i g.row.N (search rules) x.x.now o.j-counter o.x _ (search rules) o.invariant.2
+          (rows-wrote x.m o.x (λ v. v) (at x.l.now x.n o.j-counter) x.i x.n o.j-counter o.j-counter (λ r. at x.from.now x.m r o.j-counter) (search rules) (search rules) g.row.N _ _ _ (search rules) c.entries-s.ensures
+          (c.lost-z.ensures (λ v. v) (at x.l.now x.n o.j-counter) (λ v z inside gives. search rules)) c.keep.ensures),
     )
 
 pub loop-u-init : goal.loop-u-init
-loop-u-init g c = let x = c.args in let o = c.loop-j in (search rules, search rules, forward-all x.m x.n x.l.now x.d.now x.from.now (search rules) x.i g.row.N o.j x.x.now o.x (search rules) o.invariant.2)
+loop-u-init g c = let x = c.args in let o = c.loop-j in (search rules, search rules, forward-all x.m x.n x.l.now x.d.now x.from.now (search rules) x.i g.row.N o.j-counter x.x.now o.x (search rules) o.invariant.2)
 
 pub loop-u-preserved : goal.loop-u-preserved
 loop-u-preserved g c =
@@ -33,9 +34,10 @@ loop-u-preserved g c =
       search rules,
       search rules,
       backward-more x.m x.n x.l.now x.d.now x.from.now (search rules) x.i g.row.N (search rules) c.loop-j.x o.u o.x _ (search rules) o.invariant.2
-          (rows-wrote x.m x.n x.l.now o.x j (j + 1) true x.i o.u (λ r. mul binary64 (at o.x x.m r j) by) (search rules) (search rules) g.row.N _ _ _ (search rules)
-          (λ q h. c.times-s.ensures q h ∙ rw (c.inverse_of.ensures, c.entries.ensures q h)) c.lost-z-in-loop-u.ensures c.keep-in-loop-u.ensures),
+          (rows-wrote x.m o.x (λ v. j + 1 + v) (λ v. at x.l.now x.n (j + 1 + v) j) x.i x.n j o.u (λ r. mul binary64 (at o.x x.m r j) by) (search rules) (search rules) g.row.N _ _ _ (search rules)
+          (λ q h. c.times-s.ensures q h ∙ rw (c.inverse_of.ensures, c.entries.ensures q h)) (c.lost-z-in-loop-u.ensures (λ v. j + 1 + v) (λ v. at x.l.now x.n (j + 1 + v) j) (λ v z inside gives. search rules))
+          c.keep-in-loop-u.ensures),
     )
 
 pub returns : goal.returns
-returns g c = let x = c.args in let f = c.loop-j in let o = c.loop-u in backward_all x.m x.n x.l.now x.d.now x.from.now (search rules) x.i g.row.N f.j o.u x.x.now f.x o.x (search rules) f.invariant.2 o.invariant.2
+returns g c = let x = c.args in let f = c.loop-j in let o = c.loop-u in backward_all x.m x.n x.l.now x.d.now x.from.now (search rules) x.i g.row.N f.j-counter o.u x.x.now f.x o.x (search rules) f.invariant.2 o.invariant.2

@@ -1,0 +1,2 @@
+-- The written definitions that the contracts cite.
+pub mod Bytes  -- numbers and floats that stand in bytes
