@@ -1,5 +1,5 @@
 // The walk of an elimination tree where the tables are known to be good: a u32 mark advanced by a wrapping add, stamps cleared
-// where it returns to 0 or a stamp already holds it, and a climb inside the column scan that is left at a
+// where it returns to 0 or a stamp already holds it, and a climb inside the column scan that is left by a labelled break at a
 // mark or a root. What is found is written from the end of the lent buffer backwards, so it is listed last found first.
 // Kept: that the parents are a tree, and how long the stamps and the list are, as two facts of the two steps: `scan` is called by `reach_core` and `symbolic::walk` alone, which
 // are lent the lists apart, so each would build a struct for this one call.
@@ -49,13 +49,17 @@ pub fn scan(
         let mut i = row;
         if i < j {
             // Kept: it climbs a tree and counts nothing.
-            while stamp[i as usize] != mark {
+            'climb: loop {
+                let at = i as usize;
+                if stamp[at] == mark {
+                    break 'climb;
+                }
                 top -= 1;
                 out[top] = i;
-                stamp[i as usize] = mark;
-                let up = parent[i as usize];
+                stamp[at] = mark;
+                let up = parent[at];
                 if up == NONE {
-                    break;
+                    break 'climb;
                 }
                 i = up;
             }
