@@ -1,5 +1,5 @@
 // The entries of a list: words, and floats of two words each.
-ghost use Rattle.std.specs.Prelude.{◌≡◌, ℕ};
+ghost use Rattle.std.specs.Prelude.{◌≡◌, ℕ, ◌<◌, ◌%◌};
 ghost use Rattle.std.specs.Float.{binary64};
 ghost use Rattle.std.specs.Float.Ieee.{of_bits};
 ghost use Rattle.scalar.specs.Scalar.{nought as float_nought};
@@ -51,7 +51,7 @@ impl Entry for u32 {
     }
 
     fn mark(k: usize) -> u32 {
-        3000000000 + (k % 1000000000) as u32
+        3000000000 + over(k) as u32
     }
 
     fn is(self, other: u32) -> bool {
@@ -76,12 +76,20 @@ impl Entry for f64 {
     }
 
     fn mark(k: usize) -> f64 {
-        number(4748581863622180864 + (k % 1000000000) as u64)
+        number(4748581863622180864 + over(k) as u64)
     }
 
     fn is(self, other: f64) -> bool {
         same(self, other)
     }
+}
+
+// How far the mark of place k is from the first. Nearly every place is its own: a loop over a whole buffer divides for none.
+fn over(k: usize) -> usize
+    ensures over { result ≡ k % 1000000000 }
+    ensures small { result < 1000000000 }
+{
+    if k < 1000000000 { k } else { k % 1000000000 }
 }
 
 // The float with this low and this high word.
