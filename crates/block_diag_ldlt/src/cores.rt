@@ -37,7 +37,7 @@ pub fn decompose_core(
     requires { (length a.now ≡ n * n) × (length l.old ≡ n * n) × (length d.old ≡ n) }
     ensures { (result, l.new, d.new) ≡ block_ldlt n tol a.now }
 {
-    l.copy_from_slice(a);
+    copy(a, l);
     let k = ldlt_decompose_core(n, l, d, tol)?;
     if is_poor(k) {
         blank(l);
@@ -47,6 +47,17 @@ pub fn decompose_core(
         });
     }
     Ok(k)
+}
+
+// L begins as A.
+// Kept: by `copy_from_slice` the exported calls would ask for memmove, of which the archives for C have no need.
+fn copy(a: &[f64], l: &mut [f64])
+    requires { length l.old ≡ length a.now }
+    ensures { l.new ≡ a.now }
+{
+    for t in 0..a.len() {
+        l[t] = a[t];
+    }
 }
 
 // Whether the block is indefinite with a condition below 1e-10.

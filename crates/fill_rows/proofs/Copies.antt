@@ -4,6 +4,7 @@ use mathlib.Core.Path.{refl, sym, ap, subst, ◌∙◌}
 use mathlib.Core.Logic.{inl, inr, ⊎_elim}
 use native.Mathlib.Omega.{arith}
 use native.Mathlib.Decide.{dec_lt}
+use lib.ListN.{length-set}
 use lib.Seq.{get_or-set_same, get_or-set_other}
 use Rattle.graph.proofs.SetLaws.{is_true}
 use Rattle.buckets.proofs.Lists.{same?}
@@ -123,3 +124,26 @@ module _ (parent heads before table : List ℕ) (k q : ℕ) (one : k ≡ q + 1) 
           ap (λ (y : ℕ). get_or table' y 0) (sym w) ∙ aside i (1 + x) hi z (omega arith) ∙ ap (λ (y : ℕ). get_or table y 0) w ∙ c.rest i hi (omega arith) e x hx ∙ sym (parent-aside i x hi l e hx))
           (same? i q);
     }
+
+-- ---- one column's rows, t of them done
+
+pub record Moving (before : List ℕ) (source target : ℕ) (table : List ℕ) (t : ℕ) : Type 0 where
+  pub same : length table ≡ length before
+  pub moved : (x : ℕ) → x < t → get_or table (target + x) 0 ≡ get_or before (source + x) 0
+  pub other : (x : ℕ) → (x < target) ⊎ (target + t ≤ x) → get_or table x 0 ≡ get_or before x 0
+
+pub move-begins : (before : List ℕ) (source target : ℕ) → Moving before source target before 0
+move-begins before source target = record { same = refl; moved = λ x h. absurd (omega arith); other = λ x h. refl }
+
+pub move-turns : (before : List ℕ) (source target : ℕ) (table : List ℕ) (t : ℕ) → Moving before source target table t → target + t ≤ source + t → target + t < length table
+    → Moving before source target (set table (target + t) (get_or table (source + t) 0)) (t + 1)
+move-turns before source target table t g l h = record {
+  same = length-set table (target + t) (get_or table (source + t) 0) ∙ g.same;
+  moved = λ x b. ⊎_elim
+      (λ z. ap (λ (y : ℕ). get_or (set table (target + t) (get_or table (source + t) 0)) (target + y) 0) z ∙ get_or-set_same table (target + t) (get_or table (source + t) 0) 0 h
+      ∙ g.other (source + t) (inr l) ∙ ap (λ (y : ℕ). get_or before (source + y) 0) (sym z))
+      (λ z. get_or-set_other table (target + t) (target + x) (get_or table (source + t) 0) 0 (λ w. omega arith) ∙ g.moved x (omega arith))
+      (same? x t);
+  other = λ x b. get_or-set_other table (target + t) x (get_or table (source + t) 0) 0 (λ w. ⊎_elim (λ b'. omega arith) (λ b'. omega arith) b)
+      ∙ g.other x (⊎_elim (λ b'. inl b') (λ b'. inr (omega arith)) b);
+}

@@ -58,8 +58,19 @@ fn link(parent: &[u32], l_starts: &[u32], onward: &mut [u32])
     }
 }
 
+// The entries from `from` to `end` go to the places from `to` on, all of which lie before them.
+// Kept: by `copy_within` the exported calls would ask for memmove, of which the archives for C have no need.
+fn copy_down(table: &mut [u32], from: usize, end: usize, to: usize)
+    requires { (from ≤ end) × (end ≤ length table.old) × (to + (end - from) ≤ from) }
+    ensures by_index { (t : ℕ) → t < end - from → slice_index table.new (to + t) ≡ slice_index table.old (from + t) }
+    ensures by_index_2 { (x : ℕ) → (x < to) ⊎ (to + (end - from) ≤ x) → slice_index table.new x ≡ slice_index table.old x }
+{
+    for t in 0..end - from {
+        table[to + t] = table[from + t];
+    }
+}
+
 // The columns that repeat their parents', each from its parent's, from the last column down.
-// Kept: the copies are std's `copy_within`; what is written here is which columns are copied, and from where.
 fn copy_columns(parent: &[u32], l_starts: &[u32], l_rows: &mut [u32])
     requires { Parents parent.now × Rising (length parent.now) l_starts.now × (slice_index_or l_starts.now (length parent.now) 0 ≡ length l_rows.old) }
     ensures { Copied parent.now l_starts.now l_rows.old l_rows.new }
@@ -72,7 +83,7 @@ fn copy_columns(parent: &[u32], l_starts: &[u32], l_rows: &mut [u32])
             l_rows[to] = up;
             let from = l_starts[p] as usize;
             let end = l_starts[p + 1] as usize;
-            l_rows.copy_within(from..end, to + 1);
+            copy_down(l_rows, from, end, to + 1);
         }
     }
 }

@@ -11,10 +11,10 @@ pub returns-then-is_poor : goal.returns-then-is_poor
 unfolding block_ldlt
 returns-then-is_poor c =
     let x = c.args in
-    let copied : c.copy_from_slice.new.self ≡ x.a.now = search rules in
+    let copied : c.copy.new.l ≡ x.a.now = search rules in
     let is-poor = sym c.is_poor.ensures ∙ c.if-is_poor.true in
     let settled = ap (settle x.n) (rw c.in_ok-k.was at c.ldlt_decompose_core.ensures) in
-    let factor : length c.ldlt_decompose_core.new.a ≡ x.n * x.n = omega (arith, c.ldlt_decompose_core.auto.a, c.copy_from_slice.auto.self) in
+    let factor : length c.ldlt_decompose_core.new.a ≡ x.n * x.n = omega (arith, c.ldlt_decompose_core.auto.a, c.copy.auto.l) in
     let diagonal : length c.ldlt_decompose_core.new.d ≡ x.n = omega (arith, c.ldlt_decompose_core.auto.d) in
     rw (c.blank.ensures, c.blank-then-is_poor.ensures, factor, diagonal, ← copied)
     (rw is-poor at settled)
@@ -23,7 +23,7 @@ pub returns : goal.returns
 unfolding block_ldlt
 returns c =
     let x = c.args in
-    let copied : c.copy_from_slice.new.self ≡ x.a.now = search rules in
+    let copied : c.copy.new.l ≡ x.a.now = search rules in
     let fine = sym c.is_poor.ensures ∙ c.if-is_poor.false in
     rw (← copied)
     (rw fine at (ap (settle x.n) (rw c.in_ok-k.was at c.ldlt_decompose_core.ensures)))
@@ -32,6 +32,6 @@ pub returns-in_err-k : goal.returns-in_err-k
 unfolding block_ldlt
 returns-in_err-k c =
     let x = c.args in
-    let copied : c.copy_from_slice.new.self ≡ x.a.now = search rules in
+    let copied : c.copy.new.l ≡ x.a.now = search rules in
     rw (err-is _ _ c.from_residual.ensures.1, ← copied)
     (ap (settle x.n) (rw c.in_err-k.was at c.ldlt_decompose_core.ensures))

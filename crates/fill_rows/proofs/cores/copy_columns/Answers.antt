@@ -1,9 +1,7 @@
 -- `fill_rows::cores::copy_columns` meets its contract. Assumes nothing.
-use Rattle.std.specs.Prelude.{◌+◌, ◌-◌, get_or, set}
-use mathlib.Core.Path.{refl, sym, ap, ◌∙◌}
-use borrow.Author.Rules.{rules}
+use Rattle.std.specs.Prelude.{◌-◌, get_or}
+use mathlib.Core.Path.{refl, sym, ◌∙◌}
 use native.Mathlib.Omega.{arith}
-use mathlib.Core.Logic.{⊎_elim}
 use lib.ListN.{length-set}
 use Rattle.fill_rows.proofs.Copies.{copy-begins, copy-skips, copy-turns, copy-ends, parent_above, copy_places, copy-first}
 use Rattle.fill_rows.proofs.cores.copy_columns.Goals as goal
@@ -24,23 +22,19 @@ bounds-l_starts-p-then-repeats_parent c =
     let above = parent_above c.args.parent.now c.args.l_starts.now c.args.l_rows.now c.loop-k.l_rows c.loop-k.k (c.loop-k.k - 1) (omega arith) (omega arith) (sym c.repeats_parent.ensures ∙ c.if-repeats_parent.true) c.requires.0 c.requires.1 (c.requires.2 ∙ sym c.loop-k.invariant.1) in
     omega (arith, above.1, c.requires.1.count)
 
-pub copy_within-requires : goal.copy_within-requires
-copy_within-requires c =
+pub copy_down-requires : goal.copy_down-requires
+copy_down-requires c =
     let v = c.loop-k in
     let d = copy_places c.args.parent.now c.args.l_starts.now c.args.l_rows.now c.loop-k.l_rows c.loop-k.k (c.loop-k.k - 1) (omega arith) (omega arith) (sym c.repeats_parent.ensures ∙ c.if-repeats_parent.true) c.requires.0 c.requires.1 (c.requires.2 ∙ sym c.loop-k.invariant.1) in
-    let long = length-set v.l_rows (get_or c.args.l_starts.now (v.k - 1) 0) (get_or c.args.parent.now (v.k - 1) 0) in
-    record { start_le_end = d.0; in_bounds = omega (arith, d.1, long); dest_in_bounds = omega (arith, d.0, d.1, d.2, long); not_exhausted = search rules }
+    (d.0, omega (arith, d.1, length-set v.l_rows (get_or c.args.l_starts.now (v.k - 1) 0) (get_or c.args.parent.now (v.k - 1) 0)), d.2)
 
 pub loop-k-preserved-then-repeats_parent : goal.loop-k-preserved-then-repeats_parent
 loop-k-preserved-then-repeats_parent c =
     let v = c.loop-k in
-    let call = c.copy_within in (
+    let call = c.copy_down in (
       copy-turns c.args.parent.now c.args.l_starts.now c.args.l_rows.now c.loop-k.l_rows c.loop-k.k (c.loop-k.k - 1) (omega arith) (omega arith) (sym c.repeats_parent.ensures ∙ c.if-repeats_parent.true) c.requires.0 c.requires.1 (c.requires.2 ∙ sym c.loop-k.invariant.1)
-          call.new.self
-          (λ x h. call.ensures.by_index.0 (get_or c.args.l_starts.now (v.k - 1) 0 + 1 + x) 0 (omega arith) (omega arith) ∙ ap (λ y. get_or (set v.l_rows (get_or c.args.l_starts.now (v.k - 1) 0) (get_or c.args.parent.now (v.k - 1) 0)) (get_or c.args.l_starts.now (get_or c.args.parent.now (v.k - 1) 0) 0 + y) 0) (omega arith))
-          (λ y h. ⊎_elim (λ b. call.ensures.by_index.1 y 0 b) (λ b. call.ensures.by_index.2 y 0 b) h)
-          v.invariant.0,
-      call.ensures.len ∙ length-set v.l_rows (get_or c.args.l_starts.now (v.k - 1) 0) (get_or c.args.parent.now (v.k - 1) 0) ∙ v.invariant.1,
+          call.new.table call.ensures.by_index call.ensures.by_index_2 v.invariant.0,
+      call.auto.table ∙ length-set v.l_rows (get_or c.args.l_starts.now (v.k - 1) 0) (get_or c.args.parent.now (v.k - 1) 0) ∙ v.invariant.1,
     )
 
 pub loop-k-preserved : goal.loop-k-preserved
