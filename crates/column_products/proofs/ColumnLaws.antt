@@ -77,12 +77,11 @@ module _ {w x : Working} (same : SameWorking w x) where
   pub same-after : {y : Working} → SameWorking x y → SameWorking w y
   same-after next =
       record {
-        places = (next.places.0 ∙ same.places.0, next.places.1 ∙ same.places.1);
         qj = (next.qj.0 ∙ same.qj.0, next.qj.1 ∙ same.qj.1);
         qi = (next.qi.0 ∙ same.qi.0, next.qi.1 ∙ same.qi.1);
         c = (next.c.0 ∙ same.c.0, next.c.1 ∙ same.c.1);
       }
 
-  pub places-after : (t : Tables) (j k f f' e v : ℕ) → f' ≡ f → x.places.now ≡ w.places.now → PlacesFit (plan_of t w.places.now) j k f e v (length w.qi.now) (length w.c.now)
-      → PlacesFit (plan_of t x.places.now) j k f' e v (length x.qi.now) (length x.c.now)
-  places-after t j k f f' e v is kept fits = rw (is, kept, same.qi.1, same.c.1) fits
+  pub places-after : (t : Tables) (places : List ℕ) (j k f f' e v : ℕ) → f' ≡ f → PlacesFit (plan_of t places) j k f e v (length w.qi.now) (length w.c.now)
+      → PlacesFit (plan_of t places) j k f' e v (length x.qi.now) (length x.c.now)
+  places-after t places j k f f' e v is fits = rw (is, same.qi.1, same.c.1) fits

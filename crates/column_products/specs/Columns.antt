@@ -36,7 +36,6 @@ plan_of t places = plan t.sizes.now places t.l_rows.now t.l_offsets.now t.unit_s
 
 -- what is lent for a column is still the same, and as long
 pub record SameWorking (w x : Working) : Type 0 where
-  pub places : (x.places.ghost_name ≡ w.places.ghost_name) × (length x.places.now ≡ length w.places.now)
   pub qj : (x.qj.ghost_name ≡ w.qj.ghost_name) × (length x.qj.now ≡ length w.qj.now)
   pub qi : (x.qi.ghost_name ≡ w.qi.ghost_name) × (length x.qi.now ≡ length w.qi.now)
   pub c : (x.c.ghost_name ≡ w.c.ghost_name) × (length x.c.now ≡ length w.c.now)

@@ -6,15 +6,25 @@ ghost use Rattle.tables.specs.Verdict.{at};
 ghost use Rattle.column_products.specs.Columns.{plan_of, PlacesFit, FactorsFit, ScaledByD, ColumnProducts, SameWorking};
 
 use block_product::cores::{Pair, multiply_diag};
-use lists::{Numbers, Tables};
+use lists::Tables;
 use row_products::cores::{Held, Rows, apply_rows};
 use tiled_product::cores::times_diag_core;
+
+// What the products of a column are worked out from, beside the tables. It is only read.
+#[derive(Clone, Copy, Drop)]
+pub struct Inputs<'a> {
+    // Where block (i, j) begins in the column being worked, by i.
+    pub places: &'a [u32],
+    // The numbers of the finished columns, as `lists::Numbers` has them.
+    pub l_values: &'a [f64],
+    pub diag: &'a [f64],
+    pub d: &'a [f64],
+    pub cache: &'a [f64],
+}
 
 // The column being worked, and the rooms for its products.
 #[derive(Drop)]
 pub struct Working<'a> {
-    // Where block (i, j) begins in the column, by i.
-    pub places: &'a mut [u32],
     // For Q(j) d, and for Q(i).
     pub qj: &'a mut [f64],
     pub qi: &'a mut [f64],
@@ -32,15 +42,13 @@ pub struct Part {
 // By column k, whose row j stands at place `from` of the tables, and whose last row before `end`. Q(j) d is made once, and each Q that the
 // cache has, Q(j) among them, is taken from it.
 // Kept: the count is handed on to `apply_rows`.
-pub fn apply_column(t: &Tables, f: &Numbers, j: usize, p: &Part, w: &mut Working, count: u64) -> u64
-    requires places_fit { PlacesFit (plan_of t.now w.old.places.now) j p.now.k p.now.from p.now.end (length f.now.l_values.now) (length w.old.qi.now) (length w.old.c.now) }
-    requires factors_fit { FactorsFit (plan_of t.now w.old.places.now) j p.now.k (length f.now.diag.now) (length f.now.d.now) (length w.old.qj.now) }
+pub fn apply_column(t: &Tables, f: &Inputs, j: usize, p: &Part, w: &mut Working, count: u64) -> u64
+    requires places_fit { PlacesFit (plan_of t.now f.now.places.now) j p.now.k p.now.from p.now.end (length f.now.l_values.now) (length w.old.qi.now) (length w.old.c.now) }
+    requires factors_fit { FactorsFit (plan_of t.now f.now.places.now) j p.now.k (length f.now.diag.now) (length f.now.d.now) (length w.old.qj.now) }
     requires from_lt_end { (p.now.from < p.now.end) × (at t.now.l_rows.now p.now.from ≡ j) × (count + (p.now.end - p.now.from) < 2 ^ 64) }
-    ensures products { ColumnProducts (plan_of t.now w.old.places.now) j p.now.k p.now.from p.now.end f.now.l_values.now f.now.diag.now f.now.d.now f.now.cache.now w.old.c.now count w.new.c.now result }
-    ensures places { w.new.places.now ≡ w.old.places.now }
+    ensures products { ColumnProducts (plan_of t.now f.now.places.now) j p.now.k p.now.from p.now.end f.now.l_values.now f.now.diag.now f.now.d.now f.now.cache.now w.old.c.now count w.new.c.now result }
     ensures same { SameWorking w.old w.new }
 {
-    let places = &mut *w.places;
     let qj = &mut *w.qj;
     let qi = &mut *w.qi;
     let c = &mut *w.c;
@@ -60,8 +68,8 @@ pub fn apply_column(t: &Tables, f: &Numbers, j: usize, p: &Part, w: &mut Working
     };
     let held = Held {
         pair,
-        values: &f.l_values[..],
-        cache: &f.cache[..],
+        values: f.l_values,
+        cache: f.cache,
         unit: &f.diag[u..u_end],
     };
     scaled_by_d(hj, wk, o, &held, &f.d[s..s_end], qj);
@@ -70,7 +78,7 @@ pub fn apply_column(t: &Tables, f: &Numbers, j: usize, p: &Part, w: &mut Working
         offsets: &t.l_offsets[p.from..p.end],
     };
     let by = &*qj;
-    apply_rows(&held, &rows, &places[..], &by[..room], qi, c, count)
+    apply_rows(&held, &rows, f.places, &by[..room], qi, c, count)
 }
 
 // q begins with Q(j) d then, where L(j, k), of h rows and w columns, begins at o in L's values: with Q(j) from the cache, where it stands as

@@ -49,11 +49,12 @@ impl Refusal for ColumnError {
 }
 
 // All columns of the factor of A, ascending, up to the first that is refused: the products of all of them. `next` of the scratch begins with the
-// first places of L's columns.
+// first places of L's columns; `places` is scratch, as `factor_column` says.
 pub fn factor_columns(
     a: &Matrix,
     t: &Tables,
     tol: f64,
+    places: &mut [u32],
     w: &mut Scratch,
     f: &mut Numbers,
 ) -> Result<u64, ColumnError>
@@ -61,7 +62,7 @@ pub fn factor_columns(
     requires rows_laid { RowsLaid (laid t.now) (length a.now.dims.now) (length f.old.l_values.now) (length w.old.room.c.now) }
     requires diagonal_laid { DiagonalLaid t.now.sizes.now t.now.unit_starts.now t.now.d_starts.now (length a.now.dims.now) (length f.old.diag.now) (length f.old.d.now) }
     requires grown { Grown (laid t.now) t.now.into.now t.now.upper.now t.now.tree.now × (length t.now.tree.now ≡ length a.now.dims.now) }
-    requires ready { Ready (laid t.now) (length a.now.dims.now) 0 w.old }
+    requires ready { Ready (laid t.now) (length a.now.dims.now) 0 places.old w.old }
     requires c_len { length w.old.room.c.now < 4294967296 }
     ensures runs { Runs (laid t.now) t.now.unit_starts.now t.now.d_starts.now t.now.into.now t.now.upper.now (given_of a.now tol) result f.new.l_values.now f.new.diag.now f.new.d.now f.new.cache.now }
     ensures scratch { SameScratch w.old w.new }
@@ -70,7 +71,8 @@ pub fn factor_columns(
     let n = a.dims.len();
     let mut count: u64 = 0;
     for j in 0..n {
-        count = factor_column(a, t, j, tol, w, f, count).map_err(move |e| refused_at(j, e))?;
+        let end = factor_column(a, t, j, tol, places, w, f, count);
+        count = end.map_err(move |e| refused_at(j, e))?;
     }
     Ok(count)
 }

@@ -71,7 +71,6 @@ pub fn write_numbers(
         tree: &tree[..],
     };
     let room = Working {
-        places,
         qj: &mut [0.0; 256],
         qi: &mut [0.0; 256],
         c: column,
@@ -88,7 +87,7 @@ pub fn write_numbers(
         d,
         cache,
     };
-    let r = factor_columns(&a, &t, s.system.tol, &mut w, &mut f);
+    let r = factor_columns(&a, &t, s.system.tol, places, &mut w, &mut f);
     spoil(&r, f.l_values);
     spoil(&r, f.diag);
     spoil(&r, f.d);

@@ -39,12 +39,12 @@ module _ (t : Tables) where
     pub liu : Tree (length tree) into upper tree
     pub rows : (k : ℕ) → k < length tree → rows_at t k ≡ L.rows (linked_up into upper) (length tree) k
 
-  -- what is lent to work out n columns, before column j: each list is long enough, and no stamp is past it
-  pub record Ready (n j : ℕ) (w : Scratch) : Type 0 where
+  -- what is lent to work out n columns, before column j, p the places of a column's blocks: each list is long enough, and no stamp is past it
+  pub record Ready (n j : ℕ) (p : List ℕ) (w : Scratch) : Type 0 where
     pub next : Next n j w.next.now
     pub stamps : (length w.stamps.now ≡ n) × Below j w.stamps.now
     pub out : length w.out.now ≡ n
-    pub places : length w.room.places.now ≡ n
+    pub places : length p ≡ n
     pub rooms : (256 ≤ length w.room.qj.now) × (256 ≤ length w.room.qi.now)
 
 -- ---- what is promised

@@ -12,6 +12,6 @@ returns-clause-products c =
     let t = x.t.now in
     let f = x.f.now in
     let p = x.p.now in
-    column_products (plan_of t x.w.now.places.now) x.j p.k p.from p.end (omega (arith, c.requires.from_lt_end)) _ _ _ c.requires.places_fit
+    column_products (plan_of t f.places.now) x.j p.k p.from p.end (omega (arith, c.requires.from_lt_end)) _ _ _ c.requires.places_fit
     f.l_values.now f.diag.now f.d.now f.cache.now _ x.w.now.c.now _ x.count _ c.requires.from_lt_end.0 c.requires.from_lt_end.1
     (simp add-sub_cancel_left at c.scaled_by_d.ensures) (simp add-sub_cancel_left at c.apply_rows.ensures)

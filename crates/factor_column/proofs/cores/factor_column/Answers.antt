@@ -2,6 +2,7 @@
 use Rattle.std.specs.Prelude.{ℕ, ◌+◌, length, Result}
 use mathlib.Core.Path.{refl, sym, subst, ◌∙◌}
 use native.Mathlib.Omega.{arith}
+use borrow.Author.Rules.{rules}
 use Rattle.block_diag_ldlt.specs.declared.cores.BlockError.{BlockError}
 use Rattle.layout.specs.Layout.{laid}
 use Rattle.work_column.specs.Work.{Next, Works}
@@ -38,8 +39,7 @@ finish_column-r-requires-clause-placed c =
     let x = c.args in
     let a = x.a.now in
     let load = c.load_column in
-    let n = c.requires.rows_laid.count.0 in
-    rw c.work_column-n.ensures.places (
+    let n = c.requires.rows_laid.count.0 in (
       placed_by (laid x.t.now) a.dims.now a.starts.now a.rows.now a.values.now a.order.now x.j load.new.places load.new.c load.ensures,
       omega arith,
       load.auto.places ∙ (c.requires.ready.places ∙ sym n),
@@ -69,7 +69,7 @@ returns-clause-ready_next c =
       next = subst (λ (m : ℕ). Next (laid x.t.now) m (x.j + 1) w.next.now) n ready.next;
       stamps = (ready.stamps.0 ∙ n, ready.stamps.1);
       out = ready.out ∙ n;
-      places = ready.places ∙ n;
+      places = c.load_column.auto.places ∙ c.requires.ready.places;
       rooms = ready.rooms;
     }
 
@@ -92,7 +92,7 @@ returns-clause-turns c =
     subst (λ (m : ℕ). Works t us ds into upper m x.j load.new.places f.l_values.now f.diag.now f.d.now f.cache.now load.new.c x.count work.new.w.room.c.now work.result) c.requires.grown.1 work.ensures.works in
     subst (λ (r : Result ℕ BlockError). Turns t us ds into upper g x.j f.l_values.now f.diag.now f.d.now f.cache.now x.count r f'.l_values.now f'.diag.now f'.d.now keep.new.cache) (sym c.turned_by.ensures)
     (turns t us ds into upper g x.j c.requires.in_bounds.0 c.requires.source.by_sizes load.new.places f.l_values.now f.diag.now f.d.now f.cache.now load.new.c work.new.w.room.c.now x.count work.result
-    (λ a served. load.ensures a served.fed) works finish.result f'.l_values.now f'.diag.now f'.d.now (rw work.ensures.places at finish.ensures.finishes) c.requires.rows_laid keep.new.cache
+    (λ a served. load.ensures a served.fed) works finish.result f'.l_values.now f'.diag.now f'.d.now finish.ensures.finishes c.requires.rows_laid keep.new.cache
     (rw finish.ensures.cache at keep.ensures))
 
 pub returns-clause-scratch : goal.returns-clause-scratch
@@ -104,9 +104,8 @@ returns-clause-scratch c =
       out = same.out;
       next = same.next;
       room = record {
-        places = (same.room.places.0, same.room.places.1 ∙ load.places);
         qj = same.room.qj;
         qi = same.room.qi;
-        c = (same.room.c.0, same.room.c.1 ∙ load.c);
+        c = (same.room.c.0, search rules ∙ same.room.c.1 ∙ load.c);
       };
     }

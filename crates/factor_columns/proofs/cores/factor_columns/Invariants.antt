@@ -11,7 +11,7 @@ abbrev pub invariant-loop-j : goal.invariant-loop-j
 invariant-loop-j l =
     record {
       inside : l.j ≤ length l.a.dims.now;
-      ready : Ready (laid l.t) (length l.a.dims.now) l.j l.w;
+      ready : Ready (laid l.t) (length l.a.dims.now) l.j l.places l.w;
       few : l.count ≤ 16777216 * l.j;
       scratch : SameScratch l.initial.w l.w;
       numbers : SameNumbers l.initial.f l.f;

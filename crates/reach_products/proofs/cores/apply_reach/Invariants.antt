@@ -10,11 +10,10 @@ abbrev pub invariant-loop-reaching : goal.invariant-loop-reaching
 invariant-loop-reaching l =
     record {
       done : l.reaching-index ≤ length l.reach;
-      places : l.w.places.now ≡ l.initial.w.places.now;
       same : SameWorking l.initial.w l.w;
       moved : l.next ≡ advanced (take l.reaching-index l.reach) l.initial.next;
-      counts : l.n ≡ l.count + length (reach_triples (plan_of l.t l.initial.w.places.now) l.t.l_starts.now l.initial.next l.j (take l.reaching-index l.reach));
-      steps : ReachUpTo (plan_of l.t l.initial.w.places.now) l.t.l_starts.now l.j l.reach l.initial.next l.f.l_values.now l.f.diag.now l.f.d.now l.f.cache.now l.initial.w.c.now l.count l.w.c.now l.n l.reaching-index;
+      counts : l.n ≡ l.count + length (reach_triples (plan_of l.t l.f.places.now) l.t.l_starts.now l.initial.next l.j (take l.reaching-index l.reach));
+      steps : ReachUpTo (plan_of l.t l.f.places.now) l.t.l_starts.now l.j l.reach l.initial.next l.f.l_values.now l.f.diag.now l.f.d.now l.f.cache.now l.initial.w.c.now l.count l.w.c.now l.n l.reaching-index;
     }
 
 abbrev pub decreases-loop-reaching : goal.decreases-loop-reaching

@@ -14,7 +14,7 @@ apply_reach-requires c =
     let r = c.requires in
     let walk = c.walk-top in
     let a =
-    asked (laid t) (length t.tree.now) _ _ r.rows_laid t.into.now t.upper.now r.grown.rows x.j r.placed.1 x.w.now.next.now r.ready.next t.unit_starts.now t.d_starts.now x.w.now.room.places.now _ _ _ _
+    asked (laid t) (length t.tree.now) _ _ r.rows_laid t.into.now t.upper.now r.grown.rows x.j r.placed.1 x.w.now.next.now r.ready.next t.unit_starts.now t.d_starts.now x.f.now.places.now _ _ _ _
     r.diagonal_laid r.placed.0 r.ready.places r.ready.rooms.0 r.ready.rooms.1 walk.new.out walk.result walk.ensures.upper_bound.1 (walk.auto.out ∙ r.ready.out) r.grown.liu.pattern.few x.count r.counted in
     record { reach_fit = a.0; reach_bound = a.1 }
 
@@ -27,7 +27,7 @@ returns c =
     let walk = c.walk-top in
     let call = c.apply_reach in
     let g =
-    gives (laid t) (length t.tree.now) _ _ r.rows_laid t.into.now t.upper.now r.grown.rows x.j r.placed.1 x.w.now.next.now r.ready.next t.unit_starts.now t.d_starts.now x.w.now.room.places.now _ _ _ _
+    gives (laid t) (length t.tree.now) _ _ r.rows_laid t.into.now t.upper.now r.grown.rows x.j r.placed.1 x.w.now.next.now r.ready.next t.unit_starts.now t.d_starts.now x.f.now.places.now _ _ _ _
     r.diagonal_laid r.placed.0 r.ready.places r.ready.rooms.0 r.ready.rooms.1 walk.new.out walk.result walk.ensures.upper_bound.1 (walk.auto.out ∙ r.ready.out) r.grown.liu.pattern.few x.count r.counted
     f.l_values.now f.diag.now f.d.now f.cache.now x.w.now.room.c.now call.new.w.c.now call.result call.new.next call.ensures.products in
     record {
@@ -35,11 +35,10 @@ returns c =
         next = g.0;
         stamps = (walk.auto.stamp ∙ r.ready.stamps.0, walk.ensures.below);
         out = walk.auto.out ∙ r.ready.out;
-        places = call.ensures.same.places.1 ∙ r.ready.places;
+        places = r.ready.places;
         rooms = (omega (arith, r.ready.rooms, call.ensures.same.qj), omega (arith, r.ready.rooms, call.ensures.same.qi));
       };
       count_after = g.1;
       works = g.2;
-      places = call.ensures.places;
       same = search rules;
     }
