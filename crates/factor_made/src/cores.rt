@@ -27,6 +27,7 @@ pub fn make_factor(
     requires values { ValueRoom (handed s.now.system) o.old w.old }
     ensures makes { Makes (handed s.now.system) result o.old o.new }
     ensures cache_after { cache.new ≡ zeros (length cache.old) }
+    ensures analysis { (p.new.heads.now ≡ p.old.heads.now) × (p.new.into.now ≡ p.old.into.now) × (p.new.upper.now ≡ p.old.upper.now) × (p.new.table.now ≡ p.old.table.now) }
     ensures outputs { SameOutputs o.old o.new }
     ensures scratch { SameScratch p.old p.new }
     ensures work { SameWork w.old w.new }

@@ -22,7 +22,8 @@ pub fn write_tables(s: &System, found: &Analysis, o: &mut Outputs, p: &mut Scrat
     ensures tabled { Tabled (handed s.now) o.new.order.now o.new.l_starts.now (take (stored (handed s.now)) o.new.l_rows.now) (take (stored (handed s.now) + 1) o.new.l_offsets.now) p.new.sizes.now w.new.bodies.now w.new.unit_starts.now w.new.d_starts.now p.new.count.now p.new.stamps.now }
     ensures parents_after { o.new.parents.now ≡ parents_of (links (handed s.now)) (blocks (handed s.now)) }
     ensures beyond { SameBeyond (handed s.now) o.old o.new }
-    ensures analysis { (p.new.heads.now ≡ p.old.heads.now) × (p.new.into.now ≡ p.old.into.now) × (p.new.upper.now ≡ p.old.upper.now) }
+    ensures analysis { (p.new.heads.now ≡ p.old.heads.now) × (p.new.into.now ≡ p.old.into.now) × (p.new.upper.now ≡ p.old.upper.now) × (p.new.table.now ≡ p.old.table.now) }
+    ensures numbers { (o.new.l_values.now ≡ o.old.l_values.now) × (o.new.diag.now ≡ o.old.diag.now) × (o.new.d.now ≡ o.old.d.now) × (w.new.column.now ≡ w.old.column.now) }
     ensures outputs { SameOutputs o.old o.new }
     ensures scratch { SameScratch p.old p.new }
     ensures work { SameWork w.old w.new }
