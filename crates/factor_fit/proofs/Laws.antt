@@ -3,7 +3,7 @@
 --     least, kept-is, plan-told                       the needs that only the plan shows
 --     fit-short, fit_made                             the outputs
 -- Assumes nothing.
-use Rattle.std.specs.Prelude.{◌≡◌, ℕ, ◌<◌, ◌≤◌, min, Bool, true, cond, List, length, Result}
+use Rattle.std.specs.Prelude.{◌≡◌, ℕ, ◌<◌, ◌≤◌, min, Bool, true, cond, List, length, take, Result}
 use mathlib.Core.Path.{sym, ap, ◌∙◌}
 use native.Mathlib.Omega.{arith}
 use mathlib.Core.Logic.{⊎_elim}
@@ -21,11 +21,11 @@ use Rattle.layout.proofs.PlanLaws.{plan_few, plan-stored}
 use Rattle.factor_columns.specs.declared.cores.ColumnError.{ColumnError}
 use Rattle.scratch.specs.declared.Scratch.{Scratch}
 use Rattle.factor_setup.specs.Exact.{stored, numbers}
-use Rattle.factor_setup.specs.Lent.{Found}
+use Rattle.factor_setup.specs.Lent.{UpperTree, Found}
 use Rattle.factor_setup.specs.declared.Outputs.{Outputs}
 use Rattle.factor_setup.specs.declared.Work.{Work}
 use Rattle.factor_made.specs.Made.{Makes}
-use Rattle.factor_core.specs.Factorize.{Factorized, told, Places, lent_in, answered}
+use Rattle.factor_core.specs.Factorize.{Factorized, told, Places, lent, lent_in, answered}
 use Rattle.factor_core.specs.Written.{factorized_by, plan_needs, Written}
 use Rattle.factor_core.specs.Cache.{lesser, cache_need, whole_kept}
 use Rattle.factor_core.proofs.CacheLaws.{lesser-first, lesser-second}
@@ -50,11 +50,11 @@ module _ (a : System) (sound : SystemSound a.dims a.starts a.rows a.values a.per
       omega arith
 
 -- what the tables and the numbers are made from
-pub found_is : (a : System) (p : Scratch) (r : Analysis) → analysis.Ready a.dims a.starts a.rows a.perm a.late p.count.now p.heads.now p.into.now p.upper.now r → blocks a ≤ length p.heads.now → Found a p r
-found_is a p r g long =
+pub found_is : (a : System) (t : UpperTree) (count heads : List ℕ) (r : Analysis) → analysis.Ready a.dims a.starts a.rows a.perm a.late count heads t.starts.now t.rows.now r → t.parent.now ≡ take (blocks a) heads
+    → Found a t count r
+found_is a t count heads r g tree =
     record {
-      analyzed = record { listed = g.listed; parents = g.analyzed.parents; counted = g.analyzed.counted };
-      tree = long;
+      analyzed = record { listed = g.listed; parents = tree ∙ g.analyzed.parents; counted = g.analyzed.counted };
       inside = g.inside;
       stored = g.analyzed.stored;
     }
@@ -105,9 +105,11 @@ module _ (w : Told) (a : System) (b b' : Places) where
       kept old new = sym (ap (λ (z : Bool). cond z old new) also)
 
 -- all needs are met: the factor's
-pub fit_made : (w : Told) (a : System) (o o' : Outputs) (p p' : Scratch) (x x' : Work) (r : Factorized) (y : Result ℕ ColumnError) → Makes a y o o'
-    → r ≡ factorized_by (stored a) (numbers a) y → done ≡ w → Written w a (lent_in o p x) r (lent_in o' p' x')
-fit_made w a o o' p p' x x' r y m is passes =
+pub fit_made : (w : Told) (a : System) (o o' : Outputs) (p : Scratch) (x x' : Work) {inverse sizes count heads into stamps table upper : List ℕ} (r : Factorized) (y : Result ℕ ColumnError) → Makes a y o o'
+    → r ≡ factorized_by (stored a) (numbers a) y → done ≡ w
+    → Written w a (lent_in o p x) r (lent o'.order.now o'.parents.now o'.l_starts.now o'.l_rows.now o'.l_offsets.now o'.l_values.now o'.diag.now o'.d.now x'.column.now
+    inverse sizes count heads into stamps table upper x'.bodies.now x'.unit_starts.now x'.d_starts.now x'.places.now)
+fit_made w a o o' p x x' r y m is passes =
     record {
       outcome = ap told is ∙ answer-is a y m.outcome ∙ ap (λ (t : Told). first_of t (answered a (run a))) passes;
       order = m.by_order ∙ now o.order.now _;

@@ -13,7 +13,7 @@ use analysis::cores::analyze;
 use factor_core::cores::{clear_to, factorized_by, plan_room};
 use factor_core::{Counts, FactorizeError, Outputs};
 use factor_made::cores::make_factor;
-use factor_setup::{Passed, Work};
+use factor_setup::{Passed, UpperTree, Work};
 use scratch::Scratch;
 
 // The plan in scratch, then the needs that only the plan shows, then the outputs. A cache of at most `most` numbers is used, and ends as
@@ -51,6 +51,31 @@ pub fn fit(
         clear_to(kept, cache);
         return Err(FactorizeError::from(short));
     }
-    let r = make_factor(s, &found, o, p, w, &mut cache[..kept]);
+    let n = s.system.dims.len();
+    let inverse = &mut *p.inverse;
+    let sizes = &mut *p.sizes;
+    let count = &mut *p.count;
+    let heads = &mut *p.heads;
+    let into = &mut *p.into;
+    let stamps = &mut *p.stamps;
+    let upper = &mut *p.upper;
+    let (tree, _) = heads.split_at(n);
+    let grown = UpperTree {
+        starts: &into[..],
+        rows: &upper[..],
+        parent: tree,
+    };
+    let r = make_factor(
+        s,
+        &found,
+        &grown,
+        o,
+        inverse,
+        sizes,
+        count,
+        stamps,
+        w,
+        &mut cache[..kept],
+    );
     factorized_by(r, stored, numbers)
 }

@@ -1,7 +1,6 @@
 // The tables and the numbers of a factor, from what the analysis of the night leaves.
 ghost use Rattle.std.specs.Prelude.{◌≡◌, length};
 ghost use Rattle.scalar.specs.Block.{zeros};
-ghost use Rattle.scratch.specs.Scratch.{SameScratch};
 ghost use Rattle.factor_setup.specs.Exact.{handed, numbers};
 ghost use Rattle.factor_setup.specs.Lent.{SameOutputs, SameWork, Found, TableRoom, ValueRoom};
 ghost use Rattle.factor_made.specs.Made.{Makes};
@@ -10,30 +9,31 @@ use analysis::cores::Analysis;
 use factor_columns::cores::ColumnError;
 use factor_numbers::cores::write_numbers;
 use factor_setup::cores::write_tables;
-use factor_setup::{Outputs, Passed, Work};
-use scratch::Scratch;
+use factor_setup::{Outputs, Passed, UpperTree, Work};
 
-// The factor by what the analysis found, and left in the scratch of the plan. The cache ends as zeros.
+// The factor by what the analysis found: the tree with the upper pattern, and the counts in `count`. The cache ends as zeros.
+// Kept: of the plan's scratch the lists that are written, one by one: `write_tables` says why.
 pub fn make_factor(
     s: &Passed,
     found: &Analysis,
+    t: &UpperTree,
     o: &mut Outputs,
-    p: &mut Scratch,
+    inverse: &mut [u32],
+    sizes: &mut [u32],
+    count: &mut [u32],
+    stamps: &mut [u32],
     w: &mut Work,
     cache: &mut [f64],
 ) -> Result<u64, ColumnError>
-    requires analyzed { Found (handed s.now.system) p.old found.now × (found.now.counts.numbers ≡ numbers (handed s.now.system)) }
-    requires tables { TableRoom (handed s.now.system) o.old p.old w.old }
+    requires analyzed { Found (handed s.now.system) t.now count.old found.now × (found.now.counts.numbers ≡ numbers (handed s.now.system)) }
+    requires tables { TableRoom (handed s.now.system) o.old inverse.old sizes.old stamps.old w.old }
     requires values { ValueRoom (handed s.now.system) o.old w.old }
     ensures makes { Makes (handed s.now.system) result o.old o.new }
     ensures cache_after { cache.new ≡ zeros (length cache.old) }
-    ensures analysis { (p.new.heads.now ≡ p.old.heads.now) × (p.new.into.now ≡ p.old.into.now) × (p.new.upper.now ≡ p.old.upper.now) × (p.new.table.now ≡ p.old.table.now) }
     ensures outputs { SameOutputs o.old o.new }
-    ensures scratch { SameScratch p.old p.new }
     ensures work { SameWork w.old w.new }
 {
-    write_tables(&s.system, found, o, p, w);
-    let n = s.system.dims.len();
+    write_tables(&s.system, found, t, o, inverse, sizes, count, stamps, w);
     let stored = found.counts.stored;
     let order = &mut *o.order;
     let l_starts = &mut *o.l_starts;
@@ -42,13 +42,6 @@ pub fn make_factor(
     let l_values = &mut *o.l_values;
     let diag = &mut *o.diag;
     let d = &mut *o.d;
-    let inverse = &mut *p.inverse;
-    let sizes = &mut *p.sizes;
-    let count = &mut *p.count;
-    let heads = &mut *p.heads;
-    let into = &mut *p.into;
-    let stamps = &mut *p.stamps;
-    let upper = &mut *p.upper;
     let column = &mut *w.column;
     let bodies = &mut *w.bodies;
     let unit_starts = &mut *w.unit_starts;
@@ -56,9 +49,9 @@ pub fn make_factor(
     let places = &mut *w.places;
     write_numbers(
         s,
-        &mut heads[..n],
-        into,
-        &mut upper[..found.entries],
+        t.parent,
+        t.starts,
+        &t.rows[..found.entries],
         order,
         l_starts,
         &mut l_rows[..stored],

@@ -5,6 +5,7 @@
 --     store_asks    L's tables can be stored
 --     starts-told   where L's columns begin, by the system's own links
 --     rows_told     and so its rows
+--     parents-told  a copy of the tree is the system's
 --     laid          all offsets can be laid out by them
 --     tabled        what the steps leave are the tables of the system
 -- Assumes nothing.
@@ -12,12 +13,13 @@ use Rattle.std.specs.Prelude.{◌≡◌, ℕ, ◌+◌, ◌≤◌, List, length, 
 use mathlib.Core.Path.{sym, ap, subst, ◌∙◌}
 use native.Mathlib.Omega.{arith}
 use lib.ListN.{length-map}
+use lib.Seq.{take_all}
 use Rattle.graph.specs.Symbolic.{columns}
 use Rattle.graph.proofs.SymbolicLaws.{columns_length}
 use Rattle.buckets.specs.Buckets.{lengths}
 use Rattle.tables.specs.Sound.{PlanSound, SystemSound}
 use Rattle.tables.proofs.Sound.{system-sound}
-use Rattle.elimination_tree.specs.Tree.{linked_up}
+use Rattle.elimination_tree.specs.Tree.{linked_up, parents_of}
 use Rattle.elimination_tree.proofs.Links.{parents-length}
 use Rattle.order.specs.Order.{sizes_of}
 use Rattle.symbolic.specs.Columns.{Tree, columns_of}
@@ -69,6 +71,10 @@ module _ (a : System) (few : blocks a ≤ 4096) {into upper tree count : List �
 
   pub rows_told : (rows : List ℕ) → rows ≡ rows_of (linked_up into upper) (length tree) → rows ≡ l_rows a
   rows_told rows e = e ∙ (ap (rows_of (linked_up into upper)) tree-long ∙ same-l-rows (blocks a) (links a) into upper few g.listed (links-symm a))
+
+  -- the tree, as many places of it as there are blocks
+  pub parents-told : (n : ℕ) (parents : List ℕ) → n ≡ blocks a → parents ≡ take n tree → parents ≡ parents_of (links a) (blocks a)
+  parents-told n parents e p = let h : length tree ≤ n = omega (arith, tree-long) in p ∙ (take_all n tree h ∙ g.parents)
 
 -- ---- the offsets
 

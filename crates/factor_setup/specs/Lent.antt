@@ -1,10 +1,10 @@
 -- What a factor is made in: its outputs, the scratch of its plan, and what its numbers are worked out in. Assumes nothing.
-use Rattle.std.specs.Prelude.{◌≡◌, ◌+◌, ◌≤◌, length, take, drop}
+use Rattle.std.specs.Prelude.{◌≡◌, ℕ, ◌+◌, ◌≤◌, List, length, take, drop}
 use Rattle.scalars.specs.Scalars.{scalar_count}
 use Rattle.machine.specs.System.{System, blocks}
 use Rattle.layout.specs.Layout.{units_need, work_need}
 use Rattle.lists.specs.declared.Night.{Night}
-use Rattle.scratch.specs.declared.Scratch.{Scratch}
+pub use Rattle.symbolic.specs.declared.UpperTree.{UpperTree}
 use Rattle.analysis.specs.declared.cores.Analysis.{Analysis}
 use Rattle.factor_setup.specs.Exact.{stored, numbers, Analyzed}
 use Rattle.factor_setup.specs.declared.System as declared
@@ -34,24 +34,22 @@ pub record SameWork (w x : Work) : Type 0 where
   pub d_starts : (x.d_starts.ghost_name ≡ w.d_starts.ghost_name) × (length x.d_starts.now ≡ length w.d_starts.now)
   pub places : (x.places.ghost_name ≡ w.places.ghost_name) × (length x.places.now ≡ length w.places.now)
 
--- What the analysis left in the scratch of the plan: the tree in the first places of `heads`, the upper pattern in `into` and in the first places of
--- `upper`, and how many rows each column of L has in `count`.
-pub record Found (a : System) (p : Scratch) (r : Analysis) : Type 0 where
-  pub analyzed : Analyzed a p.into.now (take r.entries p.upper.now) (take (blocks a) p.heads.now) p.count.now
-  pub tree : blocks a ≤ length p.heads.now
-  pub inside : r.entries ≤ length p.upper.now
+-- What the analysis left: the tree, the upper pattern, whose rows are the first entries of the list, and how many rows each column of L has.
+pub record Found (a : System) (t : UpperTree) (count : List ℕ) (r : Analysis) : Type 0 where
+  pub analyzed : Analyzed a t.starts.now (take r.entries t.rows.now) t.parent.now count
+  pub inside : r.entries ≤ length t.rows.now
   pub stored : r.counts.stored ≡ stored a
 
 -- L's rows and offsets have room for what the plan shows, and each other buffer of the tables has exactly what it needs
-pub record TableRoom (a : System) (o : Outputs) (p : Scratch) (w : Work) : Type 0 where
+pub record TableRoom (a : System) (o : Outputs) (inverse' sizes' stamps' : List ℕ) (w : Work) : Type 0 where
   pub order : length o.order.now ≡ blocks a
   pub parents : length o.parents.now ≡ blocks a
   pub l_starts : length o.l_starts.now ≡ blocks a + 1
   pub l_rows : stored a ≤ length o.l_rows.now
   pub l_offsets : stored a + 1 ≤ length o.l_offsets.now
-  pub inverse : length p.inverse.now ≡ blocks a
-  pub sizes : length p.sizes.now ≡ blocks a
-  pub stamps : length p.stamps.now ≡ blocks a
+  pub inverse : length inverse' ≡ blocks a
+  pub sizes : length sizes' ≡ blocks a
+  pub stamps : length stamps' ≡ blocks a
   pub bodies : length w.bodies.now ≡ length a.rows + 1
   pub unit_starts : length w.unit_starts.now ≡ blocks a + 1
   pub d_starts : length w.d_starts.now ≡ blocks a + 1

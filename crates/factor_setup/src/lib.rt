@@ -9,6 +9,7 @@ ghost use Rattle.tables.specs.Verdict.{system_verdict};
 ghost use Rattle.factor_setup.specs.Lent.{night_of};
 
 use lists::Night;
+pub use symbolic::UpperTree;
 
 // What a factorization is handed.
 // Kept: one list of seven, in the order of the call. With a `Night` inside, `values` would stand apart from the starts and rows whose bodies it has, and each caller

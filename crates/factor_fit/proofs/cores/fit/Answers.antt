@@ -1,7 +1,6 @@
 -- `factor_fit::cores::fit` meets its contract. Assumes nothing.
 use Rattle.std.specs.Prelude.{ℕ, length}
 use mathlib.Core.Path.{refl, ap, ◌∙◌}
-use native.Mathlib.Omega.{arith}
 use Rattle.refusal.specs.Refusal.{done}
 use Rattle.factor_setup.proofs.SetupLaws.{sound}
 use Rattle.factor_setup.specs.Exact.{handed, stored}
@@ -23,7 +22,7 @@ pub make_factor-r-requires-clause-analyzed : goal.make_factor-r-requires-clause-
 make_factor-r-requires-clause-analyzed c =
     let found = c.analyze-found in
     let ready = rw c.night-night.ensures at found.ensures.ready in
-    (found_is (handed c.args.s.now.system) found.new.w found.result ready (omega (arith, found.ensures.same.heads.1, c.requires.exact.heads)), ready.analyzed.numbers)
+    (found_is (handed c.args.s.now.system) _ found.new.w.count.now found.new.w.heads.now found.result ready c.split_at.ensures.front, ready.analyzed.numbers)
 
 pub returns-in-Err-clause-written : goal.returns-in-Err-clause-written
 returns-in-Err-clause-written c =
@@ -47,6 +46,6 @@ returns-clause-written c =
     let have = length c.args.cache.now in
     let s = stored_is a (sound c.args.s.now) _ _ _ _ found.result (rw c.night-night.ensures at found.ensures.ready) in
     let m = numbers-are a (sound c.args.s.now) _ _ _ _ found.result (rw c.night-night.ensures at found.ensures.ready) in
-    fit_made (whole_kept done most a b have) a c.args.o.now made.new.o c.args.p.now made.new.p c.args.w.now made.new.w c.factorized_by.result made.result made.ensures.makes
+    fit_made (whole_kept done most a b have) a c.args.o.now made.new.o c.args.p.now c.args.w.now made.new.w c.factorized_by.result made.result made.ensures.makes
     (c.factorized_by.ensures ∙ ap (λ (k : ℕ). factorized_by k found.result.counts.numbers made.result) s ∙ ap (λ (k : ℕ). factorized_by (stored a) k made.result) m)
     (c.in_default.ensures.says ∙ plan-told most a m (c.min-kept.ensures ∙ least _ _) b have s)

@@ -10,20 +10,36 @@ use Rattle.scalars.specs.Scalars.{scalar_starts}
 use Rattle.layout.specs.Layout.{unit_starts_of}
 use Rattle.factor_tables.proofs.TableLaws.{sizes-sound}
 use Rattle.factor_setup.specs.Exact.{handed, stored}
-use Rattle.factor_setup.proofs.SetupLaws.{count_long, store_asks, starts-told, rows_told, laid, tabled}
+use Rattle.factor_setup.proofs.SetupLaws.{tree-long, count_long, store_asks, starts-told, rows_told, parents-told, laid, tabled}
 use Rattle.factor_setup.proofs.cores.write_tables.Goals as goal
 
 pub store-requires-clause-tree : goal.store-requires-clause-tree
 store-requires-clause-tree c =
     let room = c.requires.room in
-    (store_asks (handed c.args.s.now) c.requires.plan_sound.blocks c.requires.analyzed.analyzed c.args.p.now.stamps.now c.args.p.now.inverse.now c.args.o.now.l_starts.now c.split_at_mut-l_rows.result.0.now
+    (store_asks (handed c.args.s.now) c.requires.plan_sound.blocks c.requires.analyzed.analyzed c.args.stamps.now c.args.inverse.now c.args.o.now.l_starts.now c.split_at_mut-l_rows.result.0.now
     room.stamps room.inverse room.l_starts (c.split_at_mut-l_rows.ensures.front_len ∙ c.requires.analyzed.stored)).0
+
+pub store-requires-clause-stamps_len : goal.store-requires-clause-stamps_len
+store-requires-clause-stamps_len c =
+    let room = c.requires.room in
+    (store_asks (handed c.args.s.now) c.requires.plan_sound.blocks c.requires.analyzed.analyzed c.args.stamps.now c.args.inverse.now c.args.o.now.l_starts.now c.split_at_mut-l_rows.result.0.now
+    room.stamps room.inverse room.l_starts (c.split_at_mut-l_rows.ensures.front_len ∙ c.requires.analyzed.stored)).1.0
 
 pub store-requires-clause-l_rows_len : goal.store-requires-clause-l_rows_len
 store-requires-clause-l_rows_len c =
     let room = c.requires.room in
-    (store_asks (handed c.args.s.now) c.requires.plan_sound.blocks c.requires.analyzed.analyzed c.args.p.now.stamps.now c.args.p.now.inverse.now c.args.o.now.l_starts.now c.split_at_mut-l_rows.result.0.now
+    (store_asks (handed c.args.s.now) c.requires.plan_sound.blocks c.requires.analyzed.analyzed c.args.stamps.now c.args.inverse.now c.args.o.now.l_starts.now c.split_at_mut-l_rows.result.0.now
     room.stamps room.inverse room.l_starts (c.split_at_mut-l_rows.ensures.front_len ∙ c.requires.analyzed.stored)).1.1
+
+-- the tree has an entry a block
+pub copy-requires : goal.copy-requires
+copy-requires c =
+    let long = tree-long (handed c.args.s.now) c.requires.plan_sound.blocks c.requires.analyzed.analyzed in
+    omega (arith, long, c.requires.room.parents)
+
+pub returns-clause-parents_after : goal.returns-clause-parents_after
+returns-clause-parents_after c =
+    parents-told (handed c.args.s.now) c.requires.plan_sound.blocks c.requires.analyzed.analyzed _ _ c.requires.room.parents c.copy.ensures
 
 -- there are as many counts as columns
 pub copy-requires-2 : goal.copy-requires-2
