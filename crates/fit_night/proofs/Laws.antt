@@ -28,10 +28,16 @@ use Rattle.held_columns.proofs.Held as held
 use Rattle.marks.specs.Mark.{silent_of, marks_of}
 use Rattle.solution.specs.Solution.{solution}
 use Rattle.solve_core.specs.Core.{Solvable, SolvedBy}
-use Rattle.fit_factor.specs.Fitted.{Fitted, told, l_room_check, Within, Factor, Fits}
+use Rattle.fit_factor.specs.Fitted.{Fitted, told, l_room_check, Within, Factor, factor, Fits}
 use Rattle.fit_factor.proofs.Laws.{units-few, stored-few}
 use Rattle.fit_night.specs.Night as night
 use Rattle.fit_night.specs.Night.{Night, Room, Solves}
+
+-- what the lists hold once the factorization has let them go; the parents are not asked for
+pub fits-back : {a : System} {b b' : Factor} {r : Fitted} {order l_starts l_rows l_offsets : List ℕ} {l_values diag d : List Float}
+    → Fits a b r b' → order ≡ b'.order → l_starts ≡ b'.l_starts → l_rows ≡ b'.l_rows → l_offsets ≡ b'.l_offsets → l_values ≡ b'.l_values → diag ≡ b'.diag → d ≡ b'.d
+    → Fits a b r (factor order b'.parents l_starts l_rows l_offsets l_values diag d)
+fits-back f order l_starts l_rows l_offsets l_values diag d = rw (order, l_starts, l_rows, l_offsets, l_values, diag, d) f
 
 module _ (a : System) (w : Within a) where
   sound : SystemSound a.dims a.starts a.rows a.values a.perm a.late a.tol
@@ -121,16 +127,21 @@ module _ (a : System) (w : Within a) where
         go (no h) = omega arith
 
     -- there is room for the solve
-    pub room : (x marks : ℕ) → x ≡ scalar_count a.dims → marks ≡ scalar_count a.dims → Room a.dims c.stored c.numbers x marks
-    room x marks ex em =
+    pub room : {i j k l m n o : ℕ} → i ≡ 128 → j ≡ 129 → k ≡ 8128 → l ≡ 8129 → m ≡ 8192 → n ≡ 8192 → o ≡ 512
+        → (x marks : ℕ) → x ≡ scalar_count a.dims → marks ≡ scalar_count a.dims → Room a.dims c.stored c.numbers i j k l m n o x marks
+    room ei ej ek el em en eo x marks ex ey =
         record {
           blocks = w.blocks;
           scalars = w.scalars;
-          of_rows = omega (arith, acc.by_stored, stored-few a w.passes w.blocks w.scalars);
-          of_values = omega (arith, acc.by_numbers, few-numbers);
-          of_diag = units-few a w.passes w.blocks w.scalars;
+          of_order = omega (arith, ei, w.blocks);
+          of_starts = omega (arith, ej, w.blocks);
+          of_rows = omega (arith, ek, acc.by_stored, stored-few a w.passes w.blocks w.scalars);
+          of_offsets = omega (arith, el, acc.by_stored, stored-few a w.passes w.blocks w.scalars);
+          of_values = omega (arith, em, acc.by_numbers, few-numbers);
+          of_diag = omega (arith, en, units-few a w.passes w.blocks w.scalars);
+          of_d = omega (arith, eo, w.scalars);
           of_x = ex;
-          of_marks = em;
+          of_marks = ey;
         }
 
     -- a factor that can be solved with

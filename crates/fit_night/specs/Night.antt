@@ -1,5 +1,5 @@
 -- What a night within the rooms of `fit` answers, its solution and its marks. Assumes nothing.
-use Rattle.std.specs.Prelude.{◌≡◌, ℕ, ◌≤◌, List, [], ◌∷◌, length, Result}
+use Rattle.std.specs.Prelude.{◌≡◌, ℕ, ◌+◌, ◌≤◌, List, [], ◌∷◌, length, Result}
 use Rattle.std.specs.Prelude.{Float}
 use Rattle.refusal.specs.Refusal.{Told, told_by, accepted, first_of, after}
 use Rattle.scalars.specs.Scalars.{scalar_count}
@@ -43,12 +43,16 @@ pub record Solves (a : System) (b : List Float) (m : List ℕ) (r : Night) (x : 
   pub solution_is : x ≡ after (l_room_check a) b (solution_after a (run a) b)
   pub marks_are : marks ≡ after (l_room_check a) m (marks_after a (run a) m)
 
--- the arrays have room for the factor, and the right side and the marks are exactly as long as there are scalars
-pub record Room (dims : List ℕ) (stored numbers x marks : ℕ) : Type 0 where
+-- the lists are long enough, and the right side and the marks exactly as long as there are scalars
+pub record Room (dims : List ℕ) (stored numbers order l_starts l_rows l_offsets l_values diag d x marks : ℕ) : Type 0 where
   pub blocks : length dims ≤ 128
   pub scalars : scalar_count dims ≤ 512
-  pub of_rows : stored ≤ 8128
-  pub of_values : numbers ≤ 8192
-  pub of_diag : units_need dims ≤ 8192
+  pub of_order : length dims ≤ order
+  pub of_starts : length dims + 1 ≤ l_starts
+  pub of_rows : stored ≤ l_rows
+  pub of_offsets : stored + 1 ≤ l_offsets
+  pub of_values : numbers ≤ l_values
+  pub of_diag : units_need dims ≤ diag
+  pub of_d : scalar_count dims ≤ d
   pub of_x : x ≡ scalar_count dims
   pub of_marks : marks ≡ scalar_count dims

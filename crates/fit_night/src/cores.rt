@@ -52,7 +52,17 @@ pub fn night_core(s: &System, x: &mut [f64], marks: &mut [u8]) -> Result<Tally, 
     let counts = factor_core(s, &mut o)?;
     let stored = counts.stored;
     let products = counts.products;
-    let silent = solve_parts(s.dims, s.tol, counts, &o, x, marks);
+    let f = Factor {
+        order: &order,
+        parents: &parents,
+        l_starts: &l_starts,
+        l_rows: &l_rows,
+        l_offsets: &l_offsets,
+        l_values: &l_values,
+        diag: &diag,
+        d: &d,
+    };
+    let silent = solve_parts(s.dims, s.tol, counts, &f, x, marks);
     Ok(Tally {
         stored,
         products,
@@ -60,19 +70,19 @@ pub fn night_core(s: &System, x: &mut [f64], marks: &mut [u8]) -> Result<Tally, 
     })
 }
 
-// The solve and the marks with the factor that stands in the first places of the arrays. Returns how many scalars are silent.
+// The solve and the marks with a factor in the first places of longer lists; its parents are not read. Returns how many scalars are silent.
 pub fn solve_parts(
     dims: &[u32],
     tol: f64,
     counts: Counts,
-    o: &Arrays,
+    f: &Factor,
     x: &mut [f64],
     marks: &mut [u8],
 ) -> usize
-    requires solvable { Solvable dims.now (take (length dims.now) o.now.order.now) (take (length dims.now + 1) o.now.l_starts.now) (take counts.stored o.now.l_rows.now) (take (counts.stored + 1) o.now.l_offsets.now) counts.numbers (units_need dims.now) (scalar_count dims.now) }
-    requires room { Room dims.now counts.stored counts.numbers (length x.old) (length marks.old) }
-    ensures solved_by { SolvedBy dims.now (take (length dims.now) o.now.order.now) (take (length dims.now + 1) o.now.l_starts.now) (take counts.stored o.now.l_rows.now) (take (counts.stored + 1) o.now.l_offsets.now) (take counts.numbers o.now.l_values.now) (take (units_need dims.now) o.now.diag.now) (take (scalar_count dims.now) o.now.d.now) x.old x.new }
-    ensures value { (result ≡ silent_of tol (take (scalar_count dims.now) o.now.d.now)) × (marks.new ≡ marks_of dims.now (take (length dims.now) o.now.order.now) tol (take (scalar_count dims.now) o.now.d.now)) }
+    requires solvable { Solvable dims.now (take (length dims.now) f.now.order.now) (take (length dims.now + 1) f.now.l_starts.now) (take counts.stored f.now.l_rows.now) (take (counts.stored + 1) f.now.l_offsets.now) counts.numbers (units_need dims.now) (scalar_count dims.now) }
+    requires room { Room dims.now counts.stored counts.numbers (length f.now.order.now) (length f.now.l_starts.now) (length f.now.l_rows.now) (length f.now.l_offsets.now) (length f.now.l_values.now) (length f.now.diag.now) (length f.now.d.now) (length x.old) (length marks.old) }
+    ensures solved_by { SolvedBy dims.now (take (length dims.now) f.now.order.now) (take (length dims.now + 1) f.now.l_starts.now) (take counts.stored f.now.l_rows.now) (take (counts.stored + 1) f.now.l_offsets.now) (take counts.numbers f.now.l_values.now) (take (units_need dims.now) f.now.diag.now) (take (scalar_count dims.now) f.now.d.now) x.old x.new }
+    ensures value { (result ≡ silent_of tol (take (scalar_count dims.now) f.now.d.now)) × (marks.new ≡ marks_of dims.now (take (length dims.now) f.now.order.now) tol (take (scalar_count dims.now) f.now.d.now)) }
 {
     let mut old_starts = [0u32; 129];
     let n = dims.len();
@@ -82,16 +92,16 @@ pub fn solve_parts(
     let numbers = counts.numbers;
     let scalars = x.len();
     let units = factor_tables::cores::unit_numbers(dims);
-    let f = Factor {
-        order: &o.order[..n],
-        parents: &o.parents[..n],
-        l_starts: &o.l_starts[..n1],
-        l_rows: &o.l_rows[..stored],
-        l_offsets: &o.l_offsets[..stored1],
-        l_values: &o.l_values[..numbers],
-        diag: &o.diag[..units],
-        d: &o.d[..scalars],
+    let first = Factor {
+        order: &f.order[..n],
+        parents: f.parents,
+        l_starts: &f.l_starts[..n1],
+        l_rows: &f.l_rows[..stored],
+        l_offsets: &f.l_offsets[..stored1],
+        l_values: &f.l_values[..numbers],
+        diag: &f.diag[..units],
+        d: &f.d[..scalars],
     };
-    solve_room(dims, &f, x);
-    mark_core(dims, f.order, f.d, tol, &mut old_starts, marks)
+    solve_room(dims, &first, x);
+    mark_core(dims, first.order, first.d, tol, &mut old_starts, marks)
 }
