@@ -10,7 +10,7 @@ ghost use Rattle.fit_answer.specs.Fit.{night_text};
 
 use factor_setup::System;
 use fit_night::cores::night_core;
-use render::{AnswerError, ShortText, Text, refused};
+use render::{AnswerError, ShortText, Text, refused_by};
 
 // The night's lines, or those of a refusal after its plan, into the first places of `out`. x is the right side in old order.
 pub fn solve_core(s: &System, x: &mut [f64], out: &mut [u8]) -> Result<Text, ShortText>
@@ -31,7 +31,7 @@ pub fn solve_core(s: &System, x: &mut [f64], out: &mut [u8]) -> Result<Text, Sho
             &marks[..scalars],
             out,
         )),
-        Err(refusal) => refused(&refusal, out),
+        Err(refusal) => refused_by(&refusal, out),
     }
 }
 

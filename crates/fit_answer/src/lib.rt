@@ -8,7 +8,7 @@ ghost use Rattle.fit_answer.specs.Fit.{printed};
 
 use crate::cores::solve_core;
 use factor_setup::System;
-use render::{ShortText, Text, refused};
+use render::{ShortText, Text, refused_by};
 use sheet::{Tables, read};
 
 // The answer's bytes go to the first places of `out`: the lines of an accepted night, or the line of a refusal. Only a shorter `out` is
@@ -52,6 +52,6 @@ pub fn answer(bytes: &[u8], out: &mut [u8]) -> Result<Text, ShortText>
             };
             solve_core(&system, &mut right[..scalars], out)
         }
-        Err(refusal) => refused(&refusal, out),
+        Err(refusal) => refused_by(&refusal, out),
     }
 }

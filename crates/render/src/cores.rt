@@ -1,12 +1,10 @@
 // The lines of an answer, each written behind the one before into a lent buffer that has the room.
 ghost use Rattle.std.specs.Prelude.{◌≡◌, ◌+◌, ◌≤◌, length};
 ghost use Rattle.std.specs.Prelude.{Float};
-ghost use Rattle.refusal.specs.Refusal.{number};
 ghost use Rattle.digits.specs.Digits.{Writes};
 ghost use Rattle.render.specs.Lines.{field as Lines·field, line_feed, mark_word, refused_line, first_line, scalar_line, lines};
 
 use digits::cores::{Writer, bits_of, places};
-use refusal::Refusal;
 
 // A label and a number.
 pub fn field(w: &mut Writer, label: &[u8], n: u64)
@@ -18,11 +16,12 @@ pub fn field(w: &mut Writer, label: &[u8], n: u64)
 }
 
 // A refusal's line.
-pub fn refused_line<R: Refusal>(w: &mut Writer, refusal: &R)
-    requires { w.old.at + length (refused_line (number (R.told refusal.now))) ≤ length w.old.out.now }
-    ensures { Writes (refused_line (number (R.told refusal.now))) w.old w.new }
+// Kept: the number, as in the crate's `refused`.
+pub fn refused_line(w: &mut Writer, number: u64)
+    requires { w.old.at + length (refused_line number) ≤ length w.old.out.now }
+    ensures { Writes (refused_line number) w.old w.new }
 {
-    field(w, b"refused ", u64::from(refusal.number()));
+    field(w, b"refused ", number);
     w.text(b"\n");
 }
 

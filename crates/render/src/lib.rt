@@ -52,17 +52,25 @@ impl Refusal for AnswerError {
     }
 }
 
-// A refusal's line, from the first place on.
-pub fn refused<R: Refusal>(refusal: &R, out: &mut [u8]) -> Result<Text, ShortText>
-    ensures { Renders (text_verdict (refused_line (number (R.told refusal.now))) out.old) (refused_line (number (R.told refusal.now))) out.old (told_line result) out.new }
+// A refusal's line by its number, from the first place on.
+// Kept: the number, which may be any of 64 bits, as a caller has it that was told no more; `refused_by` takes the refusal.
+pub fn refused(number: u64, out: &mut [u8]) -> Result<Text, ShortText>
+    ensures { Renders (text_verdict (refused_line number) out.old) (refused_line number) out.old (told_line result) out.new }
 {
-    let need = places(u64::from(refusal.number())) + 9;
+    let need = places(number) + 9;
     if out.len() < need {
         return Err(ShortText { need });
     }
     let mut w = Writer { out, at: 0 };
-    refused_line(&mut w, refusal);
+    refused_line(&mut w, number);
     Ok(Text { bytes: w.at })
+}
+
+// The same line by the refusal itself.
+pub fn refused_by<R: Refusal>(refusal: &R, out: &mut [u8]) -> Result<Text, ShortText>
+    ensures { Renders (text_verdict (refused_line (number (R.told refusal.now))) out.old) (refused_line (number (R.told refusal.now))) out.old (told_line result) out.new }
+{
+    refused(u64::from(refusal.number()), out)
 }
 
 // An accepted answer, from the first place on: the first line, then a line for each scalar of the solution x, with its mark: 0 is

@@ -25,4 +25,4 @@ returns-in-Ok c =
 -- a refused sheet's line
 pub returns-in-Err : goal.returns-in-Err
 returns-in-Err c =
-    renders-as _ (printed c.args.bytes.now) c.args.out.now (sheet-refused c.args.bytes.now _ c.in-Err.ensures.reads.outcome (sheet-refuses c.in-Err.refusal)) _ _ c.refused.ensures
+    renders-as _ (printed c.args.bytes.now) c.args.out.now (sheet-refused c.args.bytes.now _ c.in-Err.ensures.reads.outcome (sheet-refuses c.in-Err.refusal)) _ _ c.refused_by.ensures

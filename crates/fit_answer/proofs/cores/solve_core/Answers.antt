@@ -35,4 +35,4 @@ returns-in-Ok c =
 pub returns-in-Err : goal.returns-in-Err
 returns-in-Err c =
     let a = handed c.args.s.now in
-    renders-as _ (night_text a c.args.x.now) c.args.out.now (night-refused a c.args.x.now _ c.in-Err.ensures.outcome (fit-refuses c.in-Err.refusal)) _ _ c.refused.ensures
+    renders-as _ (night_text a c.args.x.now) c.args.out.now (night-refused a c.args.x.now _ c.in-Err.ensures.outcome (fit-refuses c.in-Err.refusal)) _ _ c.refused_by.ensures
