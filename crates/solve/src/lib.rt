@@ -194,6 +194,6 @@ fn check_call(night: &Night, factor: &Factor, lent: &Lent) -> Result<(), SolveEr
         ],
         &[0, all, all, n, n + 1],
     )?;
-    first_mismatch(night, factor, x)?;
+    first_mismatch(night, factor, factor.diag.len(), factor.d.len(), x)?;
     Ok(())
 }

@@ -17,12 +17,19 @@ use lists::{Factor, Night};
 use match_rows::cores::Links;
 use scalars::cores::scalar_count;
 
-// The first of them, in the order of the call. The factor's numbers and the right side are tested by their counts alone.
-//     x   how many numbers the right side has
+// The first of them, in the order of the call. The factor's numbers and the right side are tested by their counts alone: the lists of numbers
+// in `factor` are not read.
+//     diag, d, x   how many numbers the unit factors, the pivots and the right side have
 #[tactic(auto, using(crate::proofs::TestLaws::match_laws))]
-pub fn first_mismatch(night: &Night, factor: &Factor, x: usize) -> Result<(), MatchError>
+pub fn first_mismatch(
+    night: &Night,
+    factor: &Factor,
+    diag: usize,
+    d: usize,
+    x: usize,
+) -> Result<(), MatchError>
     requires { PlanSound night.now.dims.now night.now.starts.now night.now.rows.now night.now.perm.now night.now.late.now × Columns past_diagonal (length night.now.dims.now) factor.now.l_starts.now factor.now.l_rows.now }
-    ensures { told_matched result ≡ match_verdict night.now.dims.now night.now.starts.now night.now.rows.now night.now.perm.now night.now.late.now factor.now.order.now factor.now.parents.now factor.now.l_starts.now factor.now.l_rows.now factor.now.l_offsets.now (length factor.now.diag.now) (length factor.now.d.now) x }
+    ensures { told_matched result ≡ match_verdict night.now.dims.now night.now.starts.now night.now.rows.now night.now.perm.now night.now.late.now factor.now.order.now factor.now.parents.now factor.now.l_starts.now factor.now.l_rows.now factor.now.l_offsets.now diag d x }
 {
     if !order_is(night, factor.order) {
         return Err(MatchError::Mismatch { place: 5 });
@@ -36,23 +43,29 @@ pub fn first_mismatch(night: &Night, factor: &Factor, x: usize) -> Result<(), Ma
         order: factor.order,
     };
     first_wrong(&links, factor.parents, factor.l_starts, factor.l_rows)?;
-    first_shape(night.dims, factor, x)
+    first_shape(night.dims, factor, diag, d, x)
 }
 
 // The last of them: the offsets, and the counts of the numbers.
 #[tactic(auto, using(crate::proofs::TestLaws::shape_laws))]
-pub fn first_shape(dims: &[u32], factor: &Factor, x: usize) -> Result<(), MatchError>
+pub fn first_shape(
+    dims: &[u32],
+    factor: &Factor,
+    diag: usize,
+    d: usize,
+    x: usize,
+) -> Result<(), MatchError>
     requires { (length dims.now ≤ 4096) × Sizes dims.now × Permutes (length dims.now) factor.now.order.now × Columns past_diagonal (length dims.now) factor.now.l_starts.now factor.now.l_rows.now }
-    ensures { told_matched result ≡ verdict (shape_checks dims.now factor.now.order.now factor.now.l_starts.now factor.now.l_rows.now factor.now.l_offsets.now (length factor.now.diag.now) (length factor.now.d.now) x) }
+    ensures { told_matched result ≡ verdict (shape_checks dims.now factor.now.order.now factor.now.l_starts.now factor.now.l_rows.now factor.now.l_offsets.now diag d x) }
 {
     if !offsets_are(dims, factor) {
         return Err(MatchError::Mismatch { place: 9 });
     }
-    if factor.diag.len() != unit_numbers(dims) {
+    if diag != unit_numbers(dims) {
         return Err(MatchError::Mismatch { place: 11 });
     }
     let all = scalar_count(dims);
-    if factor.d.len() != all {
+    if d != all {
         return Err(MatchError::Mismatch { place: 12 });
     }
     if x != all {
