@@ -6,7 +6,7 @@ mod call;
 mod judge;
 mod told;
 
-use word_list::cases::replay;
+use word_list::cores::replay;
 use word_list::print::{bad, summary, wrong};
 
 // The turns at the list at most, its end among them.

@@ -5,7 +5,7 @@
 mod call;
 mod told;
 
-use word_list::cases::replay;
+use word_list::cores::replay;
 use word_list::print::{bad, summary, wrong};
 
 // The turns at the list at most, its end among them.

@@ -5,7 +5,8 @@
 
 use bits::cores::u32_at;
 use fit_answer::answer;
-use word_list::cases::{BadList, Case, replay};
+use word_list::cases::{BadList, Case};
+use word_list::cores::replay;
 use word_list::tally::{Count, Tally};
 
 const STDIN: i32 = 0;

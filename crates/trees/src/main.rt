@@ -6,7 +6,7 @@ mod call;
 mod print;
 mod told;
 
-use word_list::cases::replay;
+use word_list::cores::replay;
 use word_list::print::{summary, wrong};
 
 // The turns at the list at most, its end among them.

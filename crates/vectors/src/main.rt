@@ -6,7 +6,7 @@ mod calls;
 mod list;
 mod print;
 
-use word_list::cases::replay;
+use word_list::cores::replay;
 use word_list::print::bad;
 
 // The turns at the list at most, its end among them.

@@ -3,6 +3,7 @@
 #![tactic(auto)]
 
 pub mod cases;
+pub mod cores;
 pub mod entry;
 pub mod lent;
 pub mod print;

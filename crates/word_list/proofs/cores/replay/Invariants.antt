@@ -1,9 +1,9 @@
--- The loop of `word_list::cases::replay`: so many cases are told so far as turns were taken, and the counts are theirs. Assumes nothing.
+-- The loop of `word_list::cores::replay`: so many cases are told so far as turns were taken, and the counts are theirs. Assumes nothing.
 use Rattle.std.proofs.Common.{◌≡◌, List, length, Ok, Some}
 use Rattle.std.specs.List.{FoldsTo}
 use Rattle.word_list.specs.declared.cases.Case.{Case}
 use Rattle.word_list.specs.Cases.{tallied}
-use Rattle.word_list.proofs.cases.replay.Given as goal
+use Rattle.word_list.proofs.cores.replay.Given as goal
 
 abbrev pub invariant-loop-k : goal.invariant-loop-k
 invariant-loop-k g l =

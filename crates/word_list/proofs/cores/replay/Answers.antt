@@ -1,4 +1,4 @@
--- `word_list::cases::replay` meets its contract: the counts are those of the cases told so far, and each call tells one more. Assumes nothing.
+-- `word_list::cores::replay` meets its contract: the counts are those of the cases told so far, and each call tells one more. Assumes nothing.
 use Rattle.std.proofs.Common.{◌≡◌, ℕ, List, rules, of_calls, refl, sym, ◌∙◌, [], ◌∷◌, ◌++◌, arith, length-append}
 use Rattle.std.proofs.lemmas.Fn.{FoldsTo-push}
 use Rattle.std.proofs.lemmas.List.Sums.{fold-append}
@@ -6,8 +6,8 @@ use Rattle.word_list.specs.declared.cases.Case.{Case}
 use Rattle.word_list.specs.declared.tally.Count.{Count}
 use Rattle.word_list.specs.Tally.{counted}
 use Rattle.word_list.specs.Cases.{tallied}
-use Rattle.word_list.proofs.cases.replay.Goals as goal
-use Rattle.word_list.proofs.cases.replay.Goals.{then-case, else-case}
+use Rattle.word_list.proofs.cores.replay.Goals as goal
+use Rattle.word_list.proofs.cores.replay.Goals.{then-case, else-case}
 
 -- a case more is counted at its kind
 one-more : (kinds : ℕ) (counts : List Count) (cases : List Case) (case : Case) → counts ≡ tallied kinds cases → counted counts case.kind case.count ≡ tallied kinds (cases ++ (case ∷ []))
